@@ -1,0 +1,11 @@
+pub mod Cuts
+pub mod Finds
+pub mod Puts
+pub mod Checked
+pub mod Fields
+pub mod Declared
+pub mod States
+pub mod Lined
+pub mod Rejoined
+pub mod Accepted
+pub mod Judged

@@ -1,0 +1,5 @@
+pub mod Text
+pub mod Outcome
+pub mod Reading
+pub mod Laws
+pub mod Verdicts
