@@ -1,0 +1,4 @@
+pub mod Folds
+pub mod Steps
+pub mod Filling
+pub mod Numbering
