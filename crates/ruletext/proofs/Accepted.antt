@@ -23,10 +23,10 @@ use Rattle.rules.specs.declared.forms.FieldKinds.{FieldKinds}
 use Rattle.rules.specs.declared.refusals.Refusal.{Refusal}
 use Rattle.rules.specs.declared.refusals.Reason.the-variants as because
 use Rattle.rules.specs.declared.statements.Statement.{Statement}
-use Rattle.ruletext.specs.declared.rules.Stated.{Stated}
-use Rattle.ruletext.specs.Text.{lines, words, proper, is-name}
+use Rattle.reader.specs.Text.{lines, words, proper, is-name}
 use Rattle.ruletext.specs.Outcome.{Name, Contents, names, found, nothing, declared, added, check, then, known, all-names, numbers, new-name, declares, declared-kind, by-numbers, stating, by-form, by-kind, by-letter, by-first, only-letter, by-words, by-line, by-lines, counted, outcome}
-use Rattle.ruletext.specs.Laws.{Each, words-of, DeclaredIn, Called, FieldsCalled, StatedIn, Apart, Orderly}
+use Rattle.reader.specs.Cut.{Each}
+use Rattle.ruletext.specs.Laws.{EachWith, words-of, DeclaredIn, Called, FieldsCalled, StatedIn, Apart, Orderly}
 
 -- What an outcome that is no refusal says of the checks before it.
 check-ok : {X : Type 0} (b : Bool) (e : Refusal) (r : Result X Refusal) (t : X) → check b e r ≡ Ok t → (b ≡ true) × (r ≡ Ok t)
@@ -49,9 +49,17 @@ each-push : {X : Type 0} (P : X → Type 0) (xs : List X) (x : X) → Each P xs 
 each-push P [] x h p = (p, tt)
 each-push P (y ∷ ys) x h p = (h .0, each-push P ys x (h .1) p)
 
-each-map : {X : Type 0} (P Q : X → Type 0) → ((x : X) → P x → Q x) → (xs : List X) → Each P xs → Each Q xs
-each-map P Q f [] h = tt
-each-map P Q f (x ∷ xs) h = (f x (h .0), each-map P Q f xs (h .1))
+with-push : {X : Type 0} (P : X → ℕ → Type 0) (xs : List X) (ns : List ℕ) (x : X) (n : ℕ) → EachWith P xs ns → P x n → EachWith P (xs ++ x ∷ []) (ns ++ n ∷ [])
+with-push P [] [] x n h p = (p, tt)
+with-push P [] (m ∷ ms) x n h p = absurd h
+with-push P (y ∷ ys) [] x n h p = absurd h
+with-push P (y ∷ ys) (m ∷ ms) x n h p = (h .0, with-push P ys ms x n (h .1) p)
+
+with-map : {X : Type 0} (P Q : X → ℕ → Type 0) → ((x : X) (n : ℕ) → P x n → Q x n) → (xs : List X) (ns : List ℕ) → EachWith P xs ns → EachWith Q xs ns
+with-map P Q f [] [] h = tt
+with-map P Q f [] (n ∷ ns) h = h
+with-map P Q f (x ∷ xs) [] h = h
+with-map P Q f (x ∷ xs) (n ∷ ns) h = (f x n (h .0), with-map P Q f xs ns (h .1))
 
 getD-front : {X : Type 0} (xs : List X) (y d : X) (i : ℕ) → i < length xs → getD (xs ++ y ∷ []) i d ≡ getD xs i d
 getD-front [] y d i lt = absurd (omega arith)
@@ -143,8 +151,8 @@ fields-grown s t g (Some k ∷ ks) [] xs h = h
 fields-grown s t g (Some k ∷ ks) (i ∷ is) [] h = h
 fields-grown s t g (Some k ∷ ks) (i ∷ is) (x ∷ xs) h = (g k i x (h .0), fields-grown s t g ks is xs (h .1))
 
-stated-grown : (text : List ℕ) (s t : Contents) → Grown s t → (x : Stated) → StatedIn text s x → StatedIn text t x
-stated-grown text s t g x h = record {
+stated-grown : (text : List ℕ) (s t : Contents) → Grown s t → (x : Statement) (n : ℕ) → StatedIn text s x n → StatedIn text t x n
+stated-grown text s t g x n h = record {
   letter = h .letter;
   fields = h .fields;
   called = h .called;
@@ -169,16 +177,16 @@ declared-grown s Role n Individual i x h = record { low = h .low; is = h .is }
 declared-grown s Role n Class i x h = record { low = h .low; is = h .is }
 declared-grown s Role n Role i x h = let p = front-called (s .roles) n i x (h .low) (h .is) in record { low = p .0; is = p .1 }
 
-added-grown : (s : Contents) (y : Stated) → Grown s (added s y)
-added-grown s y Individual i x h = record { low = h .low; is = h .is }
-added-grown s y Class i x h = record { low = h .low; is = h .is }
-added-grown s y Role i x h = record { low = h .low; is = h .is }
+added-grown : (s : Contents) (y : Statement) (l : ℕ) → Grown s (added s y l)
+added-grown s y l Individual i x h = record { low = h .low; is = h .is }
+added-grown s y l Class i x h = record { low = h .low; is = h .is }
+added-grown s y l Role i x h = record { low = h .low; is = h .is }
 
 -- What every line keeps.
 record Kept (text : List ℕ) (s : Contents) : Type 0 where
   apart : (k : Kind) → Apart (names s k)
   told : (k : Kind) → Each (DeclaredIn text k) (names s k)
-  stated : Each (StatedIn text s) (s .stated)
+  stated : EachWith (StatedIn text s) (s .statements) (s .lines)
 
 -- A fact of the names of each kind, after one more name that has it.
 over-kinds : (P : Kind → List Name → Type 0) (s : Contents) (k : Kind) (n : Name) → ((j : Kind) → P j (names s j)) → P k (names s k ++ n ∷ []) → (j : Kind) → P j (names (declared s k n) j)
@@ -192,28 +200,28 @@ over-kinds P s Role n h p Individual = h Individual
 over-kinds P s Role n h p Class = h Class
 over-kinds P s Role n h p Role = p
 
-same-stated : (s : Contents) (k : Kind) (n : Name) → declared s k n .stated ≡ s .stated
-same-stated s Individual n = refl
-same-stated s Class n = refl
-same-stated s Role n = refl
+same-stated : (P : List Statement → List ℕ → Type 0) (s : Contents) (k : Kind) (n : Name) → P (s .statements) (s .lines) → P (declared s k n .statements) (declared s k n .lines)
+same-stated P s Individual n h = h
+same-stated P s Class n h = h
+same-stated P s Role n h = h
 
 kept-declared : (text : List ℕ) (s : Contents) (k : Kind) (n : Name) → Kept text s → Each (λ y. y .spelt ≡ n .spelt → ⊥) (names s k) → DeclaredIn text k n → Kept text (declared s k n)
 kept-declared text s k n h new said = record {
   apart = over-kinds (λ j ns. Apart ns) s k n (h .apart) (apart-push (names s k) n (h .apart k) new);
   told = over-kinds (λ j ns. Each (DeclaredIn text j) ns) s k n (h .told) (each-push (DeclaredIn text k) (names s k) n (h .told k) said);
-  stated = rw (same-stated s k n) (each-map (StatedIn text s) (StatedIn text (declared s k n)) (stated-grown text s (declared s k n) (declared-grown s k n)) (s .stated) (h .stated));
+  stated = same-stated (EachWith (StatedIn text (declared s k n))) s k n (with-map (StatedIn text s) (StatedIn text (declared s k n)) (stated-grown text s (declared s k n) (declared-grown s k n)) (s .statements) (s .lines) (h .stated));
 }
 
-same-added : (s : Contents) (y : Stated) (k : Kind) → names (added s y) k ≡ names s k
-same-added s y Individual = refl
-same-added s y Class = refl
-same-added s y Role = refl
+same-added : (s : Contents) (y : Statement) (l : ℕ) (k : Kind) → names (added s y l) k ≡ names s k
+same-added s y l Individual = refl
+same-added s y l Class = refl
+same-added s y l Role = refl
 
-kept-added : (text : List ℕ) (s : Contents) (y : Stated) → Kept text s → StatedIn text s y → Kept text (added s y)
-kept-added text s y h said = record {
-  apart = λ k. rw (same-added s y k) (h .apart k);
-  told = λ k. rw (same-added s y k) (h .told k);
-  stated = each-map (StatedIn text s) (StatedIn text (added s y)) (stated-grown text s (added s y) (added-grown s y)) (s .stated ++ y ∷ []) (each-push (StatedIn text s) (s .stated) y (h .stated) said);
+kept-added : (text : List ℕ) (s : Contents) (y : Statement) (l : ℕ) → Kept text s → StatedIn text s y l → Kept text (added s y l)
+kept-added text s y l h said = record {
+  apart = λ k. rw (same-added s y l k) (h .apart k);
+  told = λ k. rw (same-added s y l k) (h .told k);
+  stated = with-map (StatedIn text s) (StatedIn text (added s y l)) (stated-grown text s (added s y l) (added-grown s y l)) (s .statements ++ y ∷ []) (s .lines ++ l ∷ []) (with-push (StatedIn text s) (s .statements) (s .lines) y l (h .stated) said);
 }
 
 -- One line, whose words are a letter and some more.
@@ -238,24 +246,22 @@ module _ (text : List ℕ) (line : ℕ) (s : Contents) (h : Kept text s) (b : �
       let q = then-ok (all-names line 2 xs) _ t (p .1) in
       kept-new k ke xs w (eqb-true (length xs) 1 (p .0)) (q .0) (q .1) t (q .2)
 
-  kept-stating : (ks : FieldKinds) → fields-of-form b ≡ Some ks → (xs : List (List ℕ)) → words-of text line ≡ (b ∷ []) ∷ xs → (y : Stated) → stating line s b (in-order ks) xs ≡ Ok y → StatedIn text s y
+  kept-stating : (ks : FieldKinds) → fields-of-form b ≡ Some ks → (xs : List (List ℕ)) → words-of text line ≡ (b ∷ []) ∷ xs → (y : Statement) → stating line s b (in-order ks) xs ≡ Ok y → StatedIn text s y line
   unfolding stating
   kept-stating ks ke xs w y e =
       let p = check-ok (eqb (length xs) (used (in-order ks))) _ _ y e in
       let q = then-ok (all-names line 2 xs) _ y (p .1) in
       let r = then-ok (numbers line 2 s (in-order ks) xs) _ y (q .2) in
       let is = r .0 in
-      let v = then-ok (known (statement-of b (getD is 0 0) (getD is 1 0) (getD is 2 0)) (at because.UnknownLetter line 1)) _ y (r .2) in
-      let o = known-ok (statement-of b (getD is 0 0) (getD is 1 0) (getD is 2 0)) _ (v .0) (v .1) in
-      subst (StatedIn text s) (ok-same (record { statement = v .0; line = line }) y (v .2))
+      let o = known-ok (statement-of b (getD is 0 0) (getD is 1 0) (getD is 2 0)) _ y (r .2) in
       (record { letter = b; fields = is; called = xs; kinds = ks; form = ke; is = o; line = w; names = fields-called line 2 s (in-order ks) xs is (r .1) (eqb-true (length xs) (used (in-order ks)) (p .0)) })
 
   kept-form : (f : Option FieldKinds) → fields-of-form b ≡ f → (xs : List (List ℕ)) → words-of text line ≡ (b ∷ []) ∷ xs → (t : Contents) → by-form line s b f xs ≡ Ok t → Kept text t
   kept-form None fe xs w t e = let z : _≡_ {A = ℕ} 0 1 = cc in absurd (omega arith)
   kept-form (Some ks) fe xs w t e =
       let q = then-ok (stating line s b (in-order ks) xs) _ t e in
-      let u = check-ok (ltb (length (s .stated)) most-statements) _ _ t (q .2) in
-      subst (Kept text) (ok-same (added s (q .0)) t (u .1)) (kept-added text s (q .0) h (kept-stating ks fe xs w (q .0) (q .1)))
+      let u = check-ok (ltb (length (s .statements)) most-statements) _ _ t (q .2) in
+      subst (Kept text) (ok-same (added s (q .0) line) t (u .1)) (kept-added text s (q .0) line h (kept-stating ks fe xs w (q .0) (q .1)))
 
   kept-kind : (o : Option Kind) → declared-kind b ≡ o → (xs : List (List ℕ)) → words-of text line ≡ (b ∷ []) ∷ xs → (t : Contents) → by-kind line s b o xs ≡ Ok t → Kept text t
   kept-kind (Some k) oe xs w t e = kept-declares k oe xs w t e
@@ -293,5 +299,5 @@ pub orderly : (text : List ℕ) (s : Contents) → outcome text ≡ Ok s → Ord
 orderly text s e =
     let q = then-ok (by-lines 1 nothing (lines text)) counted s e in
     let k = kept-lines text 0 nothing (lines text) refl (q .0) (record { apart = λ k. no-names text k .0; told = λ k. no-names text k .1; stated = tt }) (q .1) in
-    let p = check-ok (within-limits (length (q .0 .individuals)) (length (q .0 .classes)) (length (q .0 .roles)) (length (q .0 .stated))) _ _ s (q .2) in
+    let p = check-ok (within-limits (length (q .0 .individuals)) (length (q .0 .classes)) (length (q .0 .roles)) (length (q .0 .statements))) _ _ s (q .2) in
     subst (Orderly text) (ok-same (q .0) s (p .1)) (record { counts = p .0; apart = k .apart; declared = k .told; stated = k .stated })

@@ -17,7 +17,7 @@ use Rattle.rules.specs.declared.forms.Kind.the-variants.{Individual, Class, Rol
 use Rattle.ruletext.specs.Outcome.{Name, Contents, names, found, all-names, new-name, declares, declared}
 use Rattle.rules.specs.Limits.{most}
 use Rattle.ruletext.specs.Reading.{spelt}
-use Rattle.ruletext.specs.declared.reader.Word.{Word}
+use Rattle.reader.specs.declared.reader.Word.{Word}
 use Rattle.std.specs.declared.option.Option.{Option}
 
 module _ (line : ℕ) (s : Contents) (k : Kind) (xs : List (List ℕ)) where

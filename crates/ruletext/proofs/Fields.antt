@@ -15,7 +15,7 @@ use Rattle.rules.specs.declared.forms.Kind.{Kind}
 use Rattle.rules.specs.declared.forms.Kind.the-variants.{Individual, Class, Role}
 use Rattle.ruletext.specs.Outcome.{Name, Contents, names, found, numbers, then}
 use Rattle.ruletext.specs.Reading.{spelt}
-use Rattle.ruletext.specs.declared.reader.Word.{Word}
+use Rattle.reader.specs.declared.reader.Word.{Word}
 use Rattle.rules.specs.declared.refusals.Refusal.{Refusal}
 
 module _ (line w : ℕ) (s : Contents) (o : Option Kind) (xs : List (List ℕ)) (ks : List (Option Kind)) where

@@ -14,7 +14,7 @@ use Rattle.std.specs.declared.option.Option.{Option}
 use Rattle.std.specs.declared.option.Option.the-variants.{Some, None}
 use Rattle.ruletext.specs.Outcome.{found, Name}
 use Rattle.ruletext.specs.Reading.{spelt}
-use Rattle.ruletext.specs.declared.reader.Word.{Word}
+use Rattle.reader.specs.declared.reader.Word.{Word}
 
 tested : (xs ys : List ℕ) (r : Bool) → Decides r (xs ≡ ys) → sameBytes xs ys ≡ r
 tested xs ys r h = sym (search (needs, sameBytes-decides))

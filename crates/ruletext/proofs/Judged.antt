@@ -29,6 +29,6 @@ module _ (input : List ℕ) where
   pub told-refused : length input ≤ 16384 → (e : Refusal) → outcome input ≡ Err e → (s : Contents) → s ≡ nothing → (v.Refused e ≡ verdict (judged input)) × (s ≡ left-by (judged input))
   told-refused h e q s n = (ap verdict (sym (short h ∙ q)), n ∙ ap left-by (sym (short h ∙ q)))
 
-  pub told-read : length input ≤ 16384 → (s : Contents) → outcome input ≡ Ok s → (i c r n : ℕ) → i ≡ length (s .individuals) → c ≡ length (s .classes) → r ≡ length (s .roles) → n ≡ length (s .stated)
+  pub told-read : length input ≤ 16384 → (s : Contents) → outcome input ≡ Ok s → (i c r n : ℕ) → i ≡ length (s .individuals) → c ≡ length (s .classes) → r ≡ length (s .roles) → n ≡ length (s .statements)
       → (v.Read i c r n ≡ verdict (judged input)) × (s ≡ left-by (judged input))
   told-read h s q i c r n ie ce re ne = (rw (ie, ce, re, ne) (ap verdict (sym (short h ∙ q))), ap left-by (sym (short h ∙ q)))

@@ -1,4 +1,3 @@
-pub mod Cuts
 pub mod Finds
 pub mod Puts
 pub mod Checked
@@ -6,6 +5,5 @@ pub mod Fields
 pub mod Declared
 pub mod States
 pub mod Lined
-pub mod Rejoined
 pub mod Accepted
 pub mod Judged

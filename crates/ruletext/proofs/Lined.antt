@@ -13,16 +13,16 @@ use Rattle.std.specs.declared.option.Option.the-variants.{Some, None}
 use Rattle.std.specs.declared.result.Result.{Result}
 use Rattle.std.specs.declared.result.Result.the-variants.{Ok, Err}
 use Rattle.rules.specs.declared.refusals.Refusal.{Refusal}
-use Rattle.ruletext.specs.declared.rules.Stated.{Stated}
+use Rattle.rules.specs.declared.statements.Statement.{Statement}
 use Rattle.rules.specs.declared.forms.Kind.{Kind}
-use Rattle.ruletext.specs.Text.{words, proper, lines}
+use Rattle.reader.specs.Text.{words, proper, lines}
 use Rattle.rules.specs.Forms.{fields-of-form, in-order}
 use Rattle.rules.specs.Limits.{most-statements, within-limits}
 use Rattle.rules.specs.declared.forms.Kind.the-variants.{Individual, Class, Role}
 use Rattle.rules.specs.declared.forms.FieldKinds.{FieldKinds}
 use Rattle.ruletext.specs.Outcome.{Contents, declares, declared-kind, stating, added, then, check, by-kind, by-form, by-letter, by-first, only-letter, by-line, by-lines, counted, nothing, names}
 use Rattle.ruletext.specs.Reading.{spelt}
-use Rattle.ruletext.specs.declared.reader.Word.{Word}
+use Rattle.reader.specs.declared.reader.Word.{Word}
 
 -- A line by its letter.
 module _ (line : ℕ) (s : Contents) (letter : ℕ) (xs : List (List ℕ)) (o : Option Kind) (oe : o ≡ declared-kind letter) where
@@ -40,22 +40,21 @@ module _ (line : ℕ) (s : Contents) (letter : ℕ) (xs : List (List ℕ)) (o : 
     pub l-unknown : f ≡ None → (q : Refusal) → q ≡ at because.UnknownLetter line 1 → by-letter line s letter xs ≡ Err q
     l-unknown e q qe = formed ∙ ap (λ (g : Option FieldKinds). by-form line s letter g xs) e ∙ ap Err (sym qe)
 
-    module _ (ks : FieldKinds) (e : f ≡ Some ks) (r : Result Stated Refusal) (re : r ≡ stating line s letter (in-order ks) xs) where
-      states : by-letter line s letter xs ≡ then r (λ y. check (ltb (length (s .stated)) most-statements) (at because.CountOutOfLimits line 1) (Ok (added s y)))
+    module _ (ks : FieldKinds) (e : f ≡ Some ks) (r : Result Statement Refusal) (re : r ≡ stating line s letter (in-order ks) xs) where
+      states : by-letter line s letter xs ≡ then r (λ y. check (ltb (length (s .statements)) most-statements) (at because.CountOutOfLimits line 1) (Ok (added s y line)))
       states = formed ∙ ap (λ (g : Option FieldKinds). by-form line s letter g xs) e
-          ∙ ap (λ (r : Result Stated Refusal). then r (λ y. check (ltb (length (s .stated)) most-statements) (at because.CountOutOfLimits line 1) (Ok (added s y)))) (sym re)
+          ∙ ap (λ (r : Result Statement Refusal). then r (λ y. check (ltb (length (s .statements)) most-statements) (at because.CountOutOfLimits line 1) (Ok (added s y line)))) (sym re)
 
       pub l-refused : (q : Refusal) → r ≡ Err q → by-letter line s letter xs ≡ Err q
       l-refused q qe = states ∙ rw qe refl
 
-      module _ (y : Stated) (ye : r ≡ Ok y) where
-        pub l-full : 384 ≤ length (s .stated) → (q : Refusal) → q ≡ at because.CountOutOfLimits line 1 → by-letter line s letter xs ≡ Err q
-        l-full l q qe = states ∙ rw (ye, le-ltb (length (s .stated)) 384 l) (ap Err (sym qe))
+      module _ (y : Statement) (ye : r ≡ Ok y) where
+        pub l-full : 384 ≤ length (s .statements) → (q : Refusal) → q ≡ at because.CountOutOfLimits line 1 → by-letter line s letter xs ≡ Err q
+        l-full l q qe = states ∙ rw (ye, le-ltb (length (s .statements)) 384 l) (ap Err (sym qe))
 
-        pub l-stated : length (s .stated) < 384 → (ys : List Stated) → ys ≡ s .stated ++ y ∷ []
-            → by-letter line s letter xs ≡ Ok (record { individuals = s .individuals; classes = s .classes; roles = s .roles; stated = ys })
-        l-stated l ys yse = states ∙ rw (ye, lt-ltb (length (s .stated)) 384 l)
-            (ap (λ (zs : List Stated). Ok (record { individuals = s .individuals; classes = s .classes; roles = s .roles; stated = zs })) (sym yse))
+        pub l-stated : length (s .statements) < 384 → (ys : List Statement) → ys ≡ s .statements ++ y ∷ [] → (ls : List ℕ) → ls ≡ s .lines ++ line ∷ []
+            → by-letter line s letter xs ≡ Ok (record { individuals = s .individuals; classes = s .classes; roles = s .roles; statements = ys; lines = ls })
+        l-stated l ys yse ls lse = states ∙ rw (ye, lt-ltb (length (s .statements)) 384 l) (rw (yse, lse) refl)
 
 -- A line by its bytes.
 module _ (line : ℕ) (s : Contents) (bytes : List ℕ) where
@@ -104,10 +103,10 @@ pub r-start : (s : Contents) → s ≡ nothing → (text : List ℕ) (left : Lis
 r-start s se text left te n ne = rw (se, te, ne) refl
 
 -- The counts at the end.
-module _ (s : Contents) (i c r n : ℕ) (ie : i ≡ length (s .individuals)) (ce : c ≡ length (s .classes)) (re : r ≡ length (s .roles)) (ne : n ≡ length (s .stated)) where
+module _ (s : Contents) (i c r n : ℕ) (ie : i ≡ length (s .individuals)) (ce : c ≡ length (s .classes)) (re : r ≡ length (s .roles)) (ne : n ≡ length (s .statements)) where
   told : (b : Bool) → within-limits i c r n ≡ b → counted s ≡ check b (at because.CountOutOfLimits 0 0) (Ok s)
   told b h =
-      let g : within-limits (length (s .individuals)) (length (s .classes)) (length (s .roles)) (length (s .stated)) ≡ b = rw (← ie, ← ce, ← re, ← ne) h in
+      let g : within-limits (length (s .individuals)) (length (s .classes)) (length (s .roles)) (length (s .statements)) ≡ b = rw (← ie, ← ce, ← re, ← ne) h in
       ap (λ (a : Bool). check a (at because.CountOutOfLimits 0 0) (Ok s)) g
 
   pub c-within : within-limits i c r n ≡ true → counted s ≡ Ok s
@@ -120,8 +119,8 @@ pub long : (ws : List Word) (n m : ℕ) → n ≡ m → m ≡ length ws → n �
 long ws n m e h = e ∙ h ∙ sym (length-map ws spelt)
 
 -- No kind has more than 256 names.
-pub few-names : (is cs rs : List Word) (ss : List Stated) → length is ≤ 128 → length cs ≤ 256 → length rs ≤ 32
-    → (k : Kind) → length (names (record { individuals = map spelt is; classes = map spelt cs; roles = map spelt rs; stated = ss }) k) ≤ 256
-few-names is cs rs ss i c r Individual = rw (length-map is spelt) (omega arith)
-few-names is cs rs ss i c r Class = rw (length-map cs spelt) c
-few-names is cs rs ss i c r Role = rw (length-map rs spelt) (omega arith)
+pub few-names : (is cs rs : List Word) (ss : List Statement) (ls : List ℕ) → length is ≤ 128 → length cs ≤ 256 → length rs ≤ 32
+    → (k : Kind) → length (names (record { individuals = map spelt is; classes = map spelt cs; roles = map spelt rs; statements = ss; lines = ls }) k) ≤ 256
+few-names is cs rs ss ls i c r Individual = rw (length-map is spelt) (omega arith)
+few-names is cs rs ss ls i c r Class = rw (length-map cs spelt) c
+few-names is cs rs ss ls i c r Role = rw (length-map rs spelt) (omega arith)

@@ -6,7 +6,7 @@ use native.Mathlib.Omega.{arith}
 use Rattle.std.proofs.shelf.Lists.{map-push}
 use Rattle.rules.specs.declared.forms.Kind.{Kind}
 use Rattle.rules.specs.declared.forms.Kind.the-variants.{Individual, Class, Role}
-use Rattle.ruletext.specs.declared.reader.Word.{Word}
+use Rattle.reader.specs.declared.reader.Word.{Word}
 use lib.ListN.{length}
 use Rattle.rules.specs.Limits.{most}
 use Rattle.ruletext.specs.Outcome.{Name, Contents, names, declared}
@@ -16,13 +16,13 @@ pub one-more : (ws vs : List Word) (w : Word) → ws ≡ vs ++ w ∷ [] → map 
 one-more ws vs w e = ap (map spelt) e ∙ map-push spelt vs w
 
 module _ (s : Contents) (l : List Name) (k : Kind) (n : Name) where
-  pub put-individual : k ≡ Individual → l ≡ s .individuals ++ n ∷ [] → _≡_ {A = Contents} (record { individuals = l; classes = s .classes; roles = s .roles; stated = s .stated }) (declared s k n)
+  pub put-individual : k ≡ Individual → l ≡ s .individuals ++ n ∷ [] → _≡_ {A = Contents} (record { individuals = l; classes = s .classes; roles = s .roles; statements = s .statements; lines = s .lines }) (declared s k n)
   put-individual e h = rw (e, h)
 
-  pub put-class : k ≡ Class → l ≡ s .classes ++ n ∷ [] → _≡_ {A = Contents} (record { individuals = s .individuals; classes = l; roles = s .roles; stated = s .stated }) (declared s k n)
+  pub put-class : k ≡ Class → l ≡ s .classes ++ n ∷ [] → _≡_ {A = Contents} (record { individuals = s .individuals; classes = l; roles = s .roles; statements = s .statements; lines = s .lines }) (declared s k n)
   put-class e h = rw (e, h)
 
-  pub put-role : k ≡ Role → l ≡ s .roles ++ n ∷ [] → _≡_ {A = Contents} (record { individuals = s .individuals; classes = s .classes; roles = l; stated = s .stated }) (declared s k n)
+  pub put-role : k ≡ Role → l ≡ s .roles ++ n ∷ [] → _≡_ {A = Contents} (record { individuals = s .individuals; classes = s .classes; roles = l; statements = s .statements; lines = s .lines }) (declared s k n)
   put-role e h = rw (e, h)
 
 module _ (s : Contents) (k : Kind) (n : ℕ) where

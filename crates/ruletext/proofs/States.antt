@@ -13,7 +13,6 @@ use Rattle.std.specs.declared.option.Option.the-variants.{Some, None}
 use Rattle.std.specs.declared.result.Result.{Result}
 use Rattle.std.specs.declared.result.Result.the-variants.{Ok, Err}
 use Rattle.rules.specs.declared.refusals.Refusal.{Refusal}
-use Rattle.ruletext.specs.declared.rules.Stated.{Stated}
 use Rattle.rules.specs.declared.statements.Statement.{Statement}
 use Rattle.rules.specs.declared.forms.Kind.{Kind}
 use Rattle.rules.specs.Forms.{used}
@@ -56,7 +55,7 @@ module _ (line w last : ℕ) (s : Contents) (letter : ℕ) (i j k : Option Kind)
     second : all-names line 2 xs ≡ r
     second = sym (a ∙ ap (λ (v : ℕ). all-names line (v + 1) xs) one)
 
-    pub s-name : (e : Refusal) → r ≡ Err e → (q : Result Stated Refusal) → q ≡ Err e → q ≡ stating line s letter (i ∷ j ∷ k ∷ []) xs
+    pub s-name : (e : Refusal) → r ≡ Err e → (q : Result Statement Refusal) → q ≡ Err e → q ≡ stating line s letter (i ∷ j ∷ k ∷ []) xs
     unfolding stating
     s-name e h q qe = sym (rw (eq-eqb (length xs) (used (i ∷ j ∷ k ∷ [])) (omega arith), second, h) (sym qe))
 
@@ -64,19 +63,19 @@ module _ (line w last : ℕ) (s : Contents) (letter : ℕ) (i j k : Option Kind)
       numbered : numbers line 2 s (i ∷ j ∷ k ∷ []) xs ≡ numbers line (w + 1) s (i ∷ j ∷ k ∷ []) xs
       numbered = ap (λ (v : ℕ). numbers line (v + 1) s (i ∷ j ∷ k ∷ []) xs) (sym one)
 
-      pub s-field : (e : Refusal) → numbers line (w + 1) s (i ∷ j ∷ k ∷ []) xs ≡ Err e → (q : Result Stated Refusal) → q ≡ Err e → q ≡ stating line s letter (i ∷ j ∷ k ∷ []) xs
+      pub s-field : (e : Refusal) → numbers line (w + 1) s (i ∷ j ∷ k ∷ []) xs ≡ Err e → (q : Result Statement Refusal) → q ≡ Err e → q ≡ stating line s letter (i ∷ j ∷ k ∷ []) xs
       unfolding stating
       s-field e h q qe = sym (rw (eq-eqb (length xs) (used (i ∷ j ∷ k ∷ [])) (omega arith), second, ok, numbered, h) (sym qe))
 
       module _ (x y z : ℕ) (h : numbers line (w + 1) s (i ∷ j ∷ k ∷ []) xs ≡ Ok (x ∷ y ∷ z ∷ [])) where
         module _ (o : Option Statement) (oe : o ≡ statement-of letter x y z) where
-          by : stating line s letter (i ∷ j ∷ k ∷ []) xs ≡ then (known o (at because.UnknownLetter line 1)) (λ n. Ok (record { statement = n; line = line }))
+          by : stating line s letter (i ∷ j ∷ k ∷ []) xs ≡ known o (at because.UnknownLetter line 1)
           unfolding stating
           by = rw (eq-eqb (length xs) (used (i ∷ j ∷ k ∷ [])) (omega arith), second, ok, numbered, h)
-              (ap (λ (p : Option Statement). then (known p (at because.UnknownLetter line 1)) (λ n. Ok (record { statement = n; line = line }))) (sym oe))
+              (ap (λ (p : Option Statement). known p (at because.UnknownLetter line 1)) (sym oe))
 
           pub s-unknown : o ≡ None → (q : Refusal) → q ≡ at because.UnknownLetter line 1 → Err q ≡ stating line s letter (i ∷ j ∷ k ∷ []) xs
           s-unknown e q qe = sym (by ∙ rw e (ap Err (sym qe)))
 
-          pub s-good : (n : Statement) → o ≡ Some n → Ok (record { statement = n; line = line }) ≡ stating line s letter (i ∷ j ∷ k ∷ []) xs
+          pub s-good : (n : Statement) → o ≡ Some n → Ok n ≡ stating line s letter (i ∷ j ∷ k ∷ []) xs
           s-good n e = sym (by ∙ rw e refl)

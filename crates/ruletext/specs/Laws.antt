@@ -12,27 +12,17 @@ use Rattle.rules.specs.Statements.{statement-of}
 use Rattle.rules.specs.declared.forms.Kind.{Kind}
 use Rattle.rules.specs.declared.forms.Kind.the-variants as k
 use Rattle.rules.specs.declared.forms.FieldKinds.{FieldKinds}
-use Rattle.ruletext.specs.declared.rules.Stated.{Stated}
-use Rattle.ruletext.specs.Text.{lines, words, is-name}
+use Rattle.rules.specs.declared.statements.Statement.{Statement}
+use Rattle.reader.specs.Cut.{Each}
+use Rattle.reader.specs.Text.{lines, words, is-name}
 use Rattle.ruletext.specs.Outcome.{Name, Contents, names, declared-kind}
 
--- Pieces with the byte that parts them put back.
-abbrev pub rejoin : ℕ → List (List ℕ) → List ℕ
-rejoin cut [] = []
-rejoin cut (p ∷ []) = p
-rejoin cut (p ∷ q ∷ more) = p ++ cut ∷ rejoin cut (q ∷ more)
-
-abbrev pub Each : {X : Type 0} → (X → Type 0) → List X → Type 0
-Each P [] = Unit {0}
-Each P (x ∷ xs) = P x × Each P xs
-
-abbrev pub Lacks : ℕ → List ℕ → Type 0
-Lacks cut bytes = Each (λ b. b ≡ cut → ⊥) bytes
-
--- The lines of a text are the one way to cut it: no line has a newline, and joined by newlines they are the text.
-pub record LinesWhole (text : List ℕ) : Type 0 where
-  pub joined : rejoin 10 (lines text) ≡ text
-  pub cut : Each (Lacks 10) (lines text)
+-- Each of some things with the number beside it.
+abbrev pub EachWith : {X : Type 0} → (X → ℕ → Type 0) → List X → List ℕ → Type 0
+EachWith P [] [] = Unit {0}
+EachWith P [] (n ∷ ns) = ⊥
+EachWith P (x ∷ xs) [] = ⊥
+EachWith P (x ∷ xs) (n ∷ ns) = P x n × EachWith P xs ns
 
 -- The words of the line with a number, which counts from 1.
 abbrev pub words-of : List ℕ → ℕ → List (List ℕ)
@@ -63,14 +53,14 @@ FieldsCalled s (Some k ∷ ks) (i ∷ is) [] = ⊥
 FieldsCalled s (Some k ∷ ks) (i ∷ is) (x ∷ xs) = Called s k i x × FieldsCalled s ks is xs
 
 -- A statement stands in its line: the letter of its form, then the names of its fields.
-pub record StatedIn (text : List ℕ) (s : Contents) (x : Stated) : Type 0 where
+pub record StatedIn (text : List ℕ) (s : Contents) (x : Statement) (at : ℕ) : Type 0 where
   pub letter : ℕ
   pub fields : List ℕ
   pub called : List (List ℕ)
   pub kinds : FieldKinds
   pub form : fields-of-form letter ≡ Some kinds
-  pub is : statement-of letter (getD fields 0 0) (getD fields 1 0) (getD fields 2 0) ≡ Some (x .statement)
-  pub line : words-of text (x .line) ≡ (letter ∷ []) ∷ called
+  pub is : statement-of letter (getD fields 0 0) (getD fields 1 0) (getD fields 2 0) ≡ Some x
+  pub line : words-of text at ≡ (letter ∷ []) ∷ called
   pub names : FieldsCalled s (in-order kinds) fields called
 
 -- No name stands twice.
@@ -81,7 +71,7 @@ Apart (x ∷ xs) = Each (λ y. y .spelt ≡ x .spelt → ⊥) xs × Apart xs
 -- What an accepted text gives is in order: counts within the limits, no name twice in a kind, and every name and
 -- every statement is what its own line says.
 pub record Orderly (text : List ℕ) (s : Contents) : Type 0 where
-  pub counts : within-limits (length (s .individuals)) (length (s .classes)) (length (s .roles)) (length (s .stated)) ≡ true
+  pub counts : within-limits (length (s .individuals)) (length (s .classes)) (length (s .roles)) (length (s .statements)) ≡ true
   pub apart : (k : Kind) → Apart (names s k)
   pub declared : (k : Kind) → Each (DeclaredIn text k) (names s k)
-  pub stated : Each (StatedIn text s) (s .stated)
+  pub stated : EachWith (StatedIn text s) (s .statements) (s .lines)

@@ -1,4 +1,3 @@
-pub mod Text
 pub mod Outcome
 pub mod Reading
 pub mod Laws

@@ -31,8 +31,7 @@ use Rattle.rules.specs.declared.forms.FieldKinds.{FieldKinds}
 use Rattle.rules.specs.declared.refusals.Refusal.{Refusal}
 use Rattle.rules.specs.declared.refusals.Reason.the-variants as because
 use Rattle.rules.specs.declared.statements.Statement.{Statement}
-use Rattle.ruletext.specs.Text.{lines, words, proper, is-name}
-use Rattle.ruletext.specs.declared.rules.Stated.{Stated}
+use Rattle.reader.specs.Text.{lines, words, proper, is-name}
 
 -- A declared name, with the line and word where it stands.
 pub record Name : Type 0 where
@@ -40,15 +39,16 @@ pub record Name : Type 0 where
   pub line : ℕ
   pub word : ℕ
 
--- What has been read: the names of each kind, and the statements with their lines, in the order of the text.
+-- What has been read: the names of each kind, and the statements and their lines, in the order of the text.
 pub record Contents : Type 0 where
   pub individuals : List Name
   pub classes : List Name
   pub roles : List Name
-  pub stated : List Stated
+  pub statements : List Statement
+  pub lines : List ℕ
 
 abbrev pub nothing : Contents
-nothing = record { individuals = []; classes = []; roles = []; stated = [] }
+nothing = record { individuals = []; classes = []; roles = []; statements = []; lines = [] }
 
 abbrev pub names : Contents → Kind → List Name
 names s k.Individual = s .individuals
@@ -57,13 +57,13 @@ names s k.Role = s .roles
 
 -- One name more.
 abbrev pub declared : Contents → Kind → Name → Contents
-declared s k.Individual name = record { individuals = s .individuals ++ name ∷ []; classes = s .classes; roles = s .roles; stated = s .stated }
-declared s k.Class name = record { individuals = s .individuals; classes = s .classes ++ name ∷ []; roles = s .roles; stated = s .stated }
-declared s k.Role name = record { individuals = s .individuals; classes = s .classes; roles = s .roles ++ name ∷ []; stated = s .stated }
+declared s k.Individual name = record { individuals = s .individuals ++ name ∷ []; classes = s .classes; roles = s .roles; statements = s .statements; lines = s .lines }
+declared s k.Class name = record { individuals = s .individuals; classes = s .classes ++ name ∷ []; roles = s .roles; statements = s .statements; lines = s .lines }
+declared s k.Role name = record { individuals = s .individuals; classes = s .classes; roles = s .roles ++ name ∷ []; statements = s .statements; lines = s .lines }
 
--- One statement more.
-abbrev pub added : Contents → Stated → Contents
-added s x = record { individuals = s .individuals; classes = s .classes; roles = s .roles; stated = s .stated ++ x ∷ [] }
+-- One statement more, with its line.
+abbrev pub added : Contents → Statement → ℕ → Contents
+added s x line = record { individuals = s .individuals; classes = s .classes; roles = s .roles; statements = s .statements ++ x ∷ []; lines = s .lines ++ line ∷ [] }
 
 -- The place of a name among some, the first being i.
 unfoldable pub found : ℕ → List ℕ → List Name → Option ℕ
@@ -113,13 +113,11 @@ declares line s k xs =
     (then (all-names line 2 xs) (λ _. new-name line s k xs))
 
 -- A statement with a letter and its fields' numbers.
-abbrev pub by-numbers : ℕ → ℕ → List ℕ → Result Stated Refusal
-by-numbers line letter is =
-    then (known (statement-of letter (getD is 0 0) (getD is 1 0) (getD is 2 0)) (at because.UnknownLetter line 1))
-    (λ x. Ok (record { statement = x; line = line }))
+abbrev pub by-numbers : ℕ → ℕ → List ℕ → Result Statement Refusal
+by-numbers line letter is = known (statement-of letter (getD is 0 0) (getD is 1 0) (getD is 2 0)) (at because.UnknownLetter line 1)
 
 -- What a line states, by its letter, the kinds of its fields, and its words after the letter.
-unfoldable pub stating : ℕ → Contents → ℕ → List (Option Kind) → List (List ℕ) → Result Stated Refusal
+unfoldable pub stating : ℕ → Contents → ℕ → List (Option Kind) → List (List ℕ) → Result Statement Refusal
 stating line s letter ks xs =
     check (eqb (length xs) (used ks)) (at because.WrongWordCount line 1)
     (then (all-names line 2 xs) (λ _.
@@ -133,7 +131,7 @@ abbrev pub by-form : ℕ → Contents → ℕ → Option FieldKinds → List (Li
 by-form line s letter None xs = Err (at because.UnknownLetter line 1)
 by-form line s letter (Some ks) xs =
     then (stating line s letter (in-order ks) xs) (λ x.
-    check (ltb (length (s .stated)) most-statements) (at because.CountOutOfLimits line 1) (Ok (added s x)))
+    check (ltb (length (s .statements)) most-statements) (at because.CountOutOfLimits line 1) (Ok (added s x line)))
 
 abbrev pub by-kind : ℕ → Contents → ℕ → Option Kind → List (List ℕ) → Result Contents Refusal
 by-kind line s letter (Some k) xs = declares line s k xs
@@ -168,7 +166,7 @@ by-lines line s (l ∷ ls) = then (by-line line s l) (λ t. by-lines (line + 1) 
 -- At the end the counts are within the limits; since no line passed one, only too few can be wrong.
 abbrev pub counted : Contents → Result Contents Refusal
 counted s =
-    check (within-limits (length (s .individuals)) (length (s .classes)) (length (s .roles)) (length (s .stated)))
+    check (within-limits (length (s .individuals)) (length (s .classes)) (length (s .roles)) (length (s .statements)))
     (at because.CountOutOfLimits 0 0) (Ok s)
 
 -- The outcome of a text.

@@ -22,7 +22,7 @@ judged input = check (leb (length input) 16384) (refusal because.CountOutOfLimit
 
 -- The verdict on an outcome: the counts of what was read, or the refusal.
 abbrev pub verdict : Result Contents Refusal → Verdict
-verdict (Ok s) = v.Read (length (s .individuals)) (length (s .classes)) (length (s .roles)) (length (s .stated))
+verdict (Ok s) = v.Read (length (s .individuals)) (length (s .classes)) (length (s .roles)) (length (s .statements))
 verdict (Err e) = v.Refused e
 
 -- What has been read afterwards.

@@ -1,11 +1,10 @@
-// What single bytes and words may be.
+// What the first word of a line says, and how many words come after it.
 ghost use mathlib.Core.Path.{_≡_};
 ghost use mathlib.Core.List.{List, [], _∷_};
 ghost use Prim.Native.Nat.{ℕ, _+_};
 ghost use Rattle.rules.specs.Forms.{used as usedOf};
 ghost use Rattle.rules.specs.Refusals.{refusal};
 ghost use Rattle.ruletext.specs.Outcome.{declared-kind, only-letter};
-ghost use Rattle.ruletext.specs.Text.{all, name-byte, line-byte, proper as properOf, is-name};
 use rules::forms::FieldKinds;
 use rules::forms::Kind;
 use rules::refusals::Reason;
@@ -58,52 +57,4 @@ pub(crate) fn used(kinds: FieldKinds) -> usize
     ensures { λ r. ⌜ r ≡ usedOf (kinds .first ∷ kinds .second ∷ kinds .third ∷ []) ⌝ }
 {
     in_use(kinds.first) + in_use(kinds.second) + in_use(kinds.third)
-}
-
-fn is_name_byte(b: u8) -> bool
-    ensures { λ r. ⌜ r ≡ name-byte b ⌝ }
-{
-    b >= b'a' && b <= b'z' || b >= b'0' && b <= b'9' || b == b'-'
-}
-
-fn is_line_byte(b: u8) -> bool
-    ensures { λ r. ⌜ r ≡ line-byte b ⌝ }
-{
-    is_name_byte(b) || b >= b'A' && b <= b'Z' || b == b' '
-}
-
-fn all_line_bytes(line: &[u8]) -> bool
-    ensures { λ r. ⌜ r ≡ all line-byte (now (line .entry)) ⌝ }
-{
-    for b in line {
-        if !is_line_byte(*b) {
-            return false;
-        }
-    }
-    true
-}
-
-fn all_name_bytes(word: &[u8]) -> bool
-    ensures { λ r. ⌜ r ≡ all name-byte (now (word .entry)) ⌝ }
-{
-    for b in word {
-        if !is_name_byte(*b) {
-            return false;
-        }
-    }
-    true
-}
-
-// Whether a line has no other bytes than it may have, and not too many.
-pub(crate) fn proper(line: &[u8]) -> bool
-    ensures { λ r. ⌜ r ≡ properOf (now (line .entry)) ⌝ }
-{
-    line.len() <= 120 && all_line_bytes(line)
-}
-
-// Whether a word is a name.
-pub(crate) fn is_name(word: &[u8]) -> bool
-    ensures { λ r. ⌜ r ≡ is-name (now (word .entry)) ⌝ }
-{
-    word.len() >= 1 && word.len() <= 24 && all_name_bytes(word)
 }

@@ -8,23 +8,23 @@ ghost use Rattle.std.specs.declared.result.Result.the-variants.{Ok, Err};
 ghost use Rattle.std.specs.declared.option.Option.{Option as MayBe};
 ghost use Rattle.rules.specs.declared.forms.Kind.{Kind as KindOf};
 ghost use Rattle.rules.specs.Forms.{in-order};
-ghost use Rattle.ruletext.specs.Text.{words};
+ghost use Rattle.reader.specs.Text.{words};
 ghost use Rattle.ruletext.specs.Outcome.{found, names as namesOf, declared, numbers, then, declares, stating, by-letter, by-line, counted, nothing, outcome};
-ghost use Rattle.ruletext.specs.Laws.{LinesWhole, Orderly};
+ghost use Rattle.reader.specs.Cut.{LinesWhole};
+ghost use Rattle.ruletext.specs.Laws.{Orderly};
 ghost use Rattle.ruletext.specs.Reading.{spelt, contents};
 ghost use Rattle.rules.specs.Limits.{most};
 ghost use Rattle.std.specs.Vec.{made};
 use crate::letters::kind_of;
 use crate::letters::letter_of;
-use crate::letters::proper;
 use crate::letters::refused_at;
 use crate::letters::used;
-use crate::lines::check_names;
-use crate::lines::last_word;
-use crate::reader::Reader;
-use crate::reader::Word;
 use crate::rules::Rules;
-use crate::rules::Stated;
+use crate::words::check_names;
+use crate::words::last_word;
+use reader::letters::is_proper;
+use reader::reader::Reader;
+use reader::reader::Word;
 use rules::counts::Counts;
 use rules::forms::FieldKinds;
 use rules::forms::Kind;
@@ -120,7 +120,12 @@ impl<'a> Rules<'a> {
     }
 
     // A line that states, after its first word: what it states.
-    fn stated(&self, letter: char, kinds: FieldKinds, line: Reader<'a>) -> Result<Stated, Refusal>
+    fn stated(
+        &self,
+        letter: char,
+        kinds: FieldKinds,
+        line: Reader<'a>,
+    ) -> Result<Statement, Refusal>
         requires second { ⌜ line .word ≡ 1 ⌝ }
         ensures { λ r. ⌜ r ≡ stating (line .entry .line) (contents (now (self .entry))) letter (in-order kinds) (words (now (line .entry .here))) ⌝ }
     {
@@ -132,10 +137,7 @@ impl<'a> Rules<'a> {
         let Some(statement) = Statement::new(letter, a, b, c) else {
             return Err(refused_at(Reason::UnknownLetter, line.line, 1));
         };
-        Ok(Stated {
-            statement,
-            line: line.line,
-        })
+        Ok(statement)
     }
 
     // A line with this letter, after its first word.
@@ -149,11 +151,12 @@ impl<'a> Rules<'a> {
         let Some(kinds) = field_kinds(letter) else {
             return Err(refused_at(Reason::UnknownLetter, line.line, 1));
         };
-        let stated = self.stated(letter, kinds, line)?;
+        let statement = self.stated(letter, kinds, line)?;
         if self.statements.len() >= 384 {
             return Err(refused_at(Reason::CountOutOfLimits, line.line, 1));
         }
-        self.statements.push_reserved(stated);
+        self.statements.push_reserved(statement);
+        self.lines.push_reserved(line.line);
         Ok(())
     }
 
@@ -162,7 +165,7 @@ impl<'a> Rules<'a> {
         requires first { ⌜ line .word ≡ 0 ⌝ }
         ensures { λ r. ⌜ Cases r (λ _. (by-line (line .entry .line) (contents (now (self .entry))) (now (line .entry .here)) ≡ Ok (contents (now (self .exit))))) (λ e. by-line (line .entry .line) (contents (now (self .entry))) (now (line .entry .here)) ≡ Err e) ⌝ }
     {
-        if !proper(line.here) {
+        if !is_proper(line.here) {
             return Err(refused_at(Reason::ImproperLine, line.line, 1));
         }
         let Some(word) = line.next_word() else {
@@ -196,11 +199,13 @@ impl<'a> Rules<'a> {
         let classes = Vec::with_capacity(heap, 256)?;
         let roles = Vec::with_capacity(heap, 32)?;
         let statements = Vec::with_capacity(heap, 384)?;
+        let lines = Vec::with_capacity(heap, 384)?;
         Ok(Rules {
             individuals,
             classes,
             roles,
             statements,
+            lines,
         })
     }
 
@@ -212,6 +217,7 @@ impl<'a> Rules<'a> {
         self.classes.clear();
         self.roles.clear();
         self.statements.clear();
+        self.lines.clear();
     }
 
     // Reads a text where nothing has been read yet.

@@ -1,7 +1,7 @@
 use native.Mathlib.Omega.{arith}
 use mathlib.Core.Path.{_≡_, ap, sym, _∙_}
 use Rattle.std.specs.declared.option.Option.the-variants.{Some}
-use Rattle.ruletext.proofs.Cuts.{only-one, not-one}
+use Rattle.ruletext.proofs.Checked.{only-one, not-one}
 use Rattle.ruletext.proofs.letters.letter_of.Needs as need
 
 pub returns : need.returns

@@ -2,7 +2,7 @@ use borrow.Author.Needs.{needs}
 use native.Mathlib.Omega.{arith}
 use mathlib.Core.Path.{_≡_, refl, ap, sym, _∙_}
 use Rattle.std.proofs.shelf.Results.{err-from-errBy, cases-weaker}
-use Rattle.ruletext.specs.Text.{words}
+use Rattle.reader.specs.Text.{words}
 use Rattle.ruletext.specs.Reading.{contents}
 use Rattle.ruletext.proofs.Declared.{d-not-two, d-no-name, d-before, d-full, d-put, d-room}
 use Rattle.ruletext.proofs.rules.Rules.declare.Needs as need

@@ -1,9 +1,9 @@
 use borrow.Author.Needs.{needs}
 use native.Mathlib.Omega.{arith}
 use mathlib.Core.Path.{refl, ap, sym, _∙_}
-use Rattle.ruletext.specs.declared.reader.Reader.{Reader}
+use Rattle.reader.specs.declared.reader.Reader.{Reader}
 use Prim.Native.Nat.{_+_}
-use Rattle.ruletext.specs.Text.{words}
+use Rattle.reader.specs.Text.{words}
 use Rattle.ruletext.specs.Reading.{contents}
 use Rattle.std.specs.Of.Vec.{vec-items}
 use Rattle.ruletext.proofs.Lined.{few-names}
@@ -39,7 +39,7 @@ cast-result c =
     let b = f-fits (c .args .line .now .line) (c .args .line .now .word + 1) (contents (c .args .self .now)) (c .args .kind) (words (c .args .line .now .here .now)) (c .in-Some .kind) (c .in-Some .is)
     (c .in-Some-next-word .word .bytes .now) _ (q .taken) (c .in-Some-next-word .word .line) (c .in-Some-next-word .word .word) (q .in-line) (q .in-word)
     (c .names .result .now) (c .names .ensures) (c .find .result) (c .find .ensures) (c .in-Some-find .place) (c .in-Some-find .is)
-    (few-names (vec-items (c .args .self .now .individuals)) (vec-items (c .args .self .now .classes)) (vec-items (c .args .self .now .roles)) (vec-items (c .args .self .now .statements))
+    (few-names (vec-items (c .args .self .now .individuals)) (vec-items (c .args .self .now .classes)) (vec-items (c .args .self .now .roles)) (vec-items (c .args .self .now .statements)) (vec-items (c .args .self .now .lines))
     (omega (arith, c .args .self .now .individuals .ok .0)) (omega (arith, c .args .self .now .classes .ok .0)) (omega (arith, c .args .self .now .roles .ok .0))) in
     omega (arith, b)
 

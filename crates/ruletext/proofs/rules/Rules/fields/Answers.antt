@@ -1,6 +1,6 @@
 use Prim.Native.Nat.{_+_}
 use Rattle.std.proofs.shelf.Results.{err-from-errBy}
-use Rattle.ruletext.specs.Text.{words}
+use Rattle.reader.specs.Text.{words}
 use Rattle.ruletext.specs.Reading.{contents}
 use Rattle.ruletext.proofs.States.{first-refused, second-refused, third-refused, all-read}
 use Rattle.ruletext.proofs.rules.Rules.fields.Needs as need

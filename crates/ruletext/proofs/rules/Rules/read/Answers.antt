@@ -1,6 +1,6 @@
 use mathlib.Core.Path.{_≡_, refl, ap, sym, _∙_}
 use Rattle.ruletext.specs.Reading.{contents}
-use Rattle.ruletext.proofs.Rejoined.{lines-whole}
+use Rattle.reader.proofs.Rejoined.{lines-whole}
 use Rattle.ruletext.proofs.Accepted.{orderly}
 use Rattle.ruletext.proofs.rules.Rules.read.Needs as need
 

@@ -1,9 +1,10 @@
 use mathlib.Core.Path.{_≡_, refl, ap, sym, _∙_}
 use Rattle.std.specs.declared.result.Result.the-variants.{Err}
 use Rattle.std.proofs.shelf.Results.{err-from-errBy}
-use Rattle.ruletext.specs.Text.{lines}
+use Rattle.reader.specs.Text.{lines}
 use Rattle.ruletext.specs.Outcome.{by-lines, nothing}
-use Rattle.ruletext.specs.Reading.{contents, lines-left}
+use Rattle.ruletext.specs.Reading.{contents}
+use Rattle.reader.specs.Reading.{lines-left}
 use Rattle.ruletext.proofs.Lined.{r-end, r-more, r-refused, r-start, r-last}
 use Rattle.ruletext.proofs.rules.Rules.read_lines.Needs as need
 

@@ -2,9 +2,10 @@ use mathlib.Core.Path.{_≡_}
 use mathlib.Core.List.{List}
 use Prim.Native.Nat.{_+_}
 use lib.ListN.{length}
-use Rattle.ruletext.specs.Text.{lines}
+use Rattle.reader.specs.Text.{lines}
 use Rattle.ruletext.specs.Outcome.{by-lines, nothing}
-use Rattle.ruletext.specs.Reading.{contents, lines-left}
+use Rattle.ruletext.specs.Reading.{contents}
+use Rattle.reader.specs.Reading.{lines-left}
 use Rattle.ruletext.proofs.rules.Rules.read_lines.Given as given
 
 abbrev pub Inv-loop-reader : given.InvT-loop-reader

@@ -2,7 +2,7 @@ use mathlib.Core.Path.{_≡_, refl, ap, sym, _∙_}
 use native.Mathlib.Omega.{arith}
 use Rattle.std.specs.declared.result.Result.the-variants.{Ok, Err}
 use Rattle.std.proofs.shelf.Results.{err-from-errBy}
-use Rattle.ruletext.specs.Text.{words}
+use Rattle.reader.specs.Text.{words}
 use Rattle.ruletext.specs.Reading.{contents}
 use Rattle.ruletext.proofs.States.{s-count, s-name, s-field, s-unknown, s-good}
 use Rattle.ruletext.proofs.rules.Rules.stated.Needs as need

@@ -1,7 +1,0 @@
-use borrow.Author.Needs.{needs}
-use mathlib.Core.Path.{_≡_, refl}
-use Rattle.ruletext.proofs.Cuts.{words-none}
-use Rattle.ruletext.proofs.reader.Reader.new.Needs as need
-
-pub returns : need.returns
-returns c = record { ahead = refl; bare = words-none; line = refl; word = refl }
