@@ -1,6 +1,8 @@
 // Trials of the two mark stores and of marking. What they answer is compared with the file `stdout`.
 mod refused;
 
+ghost use mathlib.Core.Path.{_≡_};
+ghost use Prim.Native.Nat.{_<_};
 ghost use lib.ListN.{length};
 ghost use Rattle.std.specs.Results.{Cases};
 ghost use Rattle.marks.specs.Marking.{Marking};
@@ -12,6 +14,7 @@ ghost use Rattle.slottable.specs.Table.{slotted};
 ghost use Rattle.slottable.specs.declared.slot.Slot.the-variants.{Free};
 ghost use Rattle.edges.specs.Reaches.{By};
 ghost use Rattle.markdemo.specs.Refusals.{Means};
+ghost use Rattle.markdemo.specs.declared.refused.Refused.the-variants.{LimitTooLow};
 use edges::Edge;
 use edges::Graph;
 use edges::GraphRules;
@@ -110,7 +113,7 @@ fn in_words(graph: &Graph, words: &mut [u64], limit: u64, most: u64) -> Result<M
 
 // Marks what the graph reaches in slots that are freed first.
 fn in_slots(graph: &Graph, slots: &mut [Slot], limit: u64, most: u64) -> Result<Marked, Refused>
-    ensures { λ r. ⌜ Cases r (λ m. Marking (Grounded (By (now (now (graph .entry) .edges)) (now (graph .entry) .start) (now (graph .entry) .bound))) empty (capped (slotted (now (slots .exit))) limit) limit (length (now (slots .entry))) most (m .added) (m .state)) (λ e. Filled Free (now (slots .entry)) (now (slots .exit))) ⌝ }
+    ensures { λ r. ⌜ Cases r (λ m. Marking (Grounded (By (now (now (graph .entry) .edges)) (now (graph .entry) .start) (now (graph .entry) .bound))) empty (capped (slotted (now (slots .exit))) limit) limit (length (now (slots .entry))) most (m .added) (m .state)) (λ e. (e ≡ LimitTooLow) × (limit < now (graph .entry) .bound) × Filled Free (now (slots .entry)) (now (slots .exit))) ⌝ }
 {
     let mut table = SlotTable::over(slots);
     table.set_up(limit);

@@ -24,11 +24,11 @@ use Rattle.rules.specs.declared.refusals.Refusal.{Refusal}
 use Rattle.rules.specs.declared.refusals.Reason.the-variants as because
 use Rattle.rules.specs.declared.statements.Statement.{Statement}
 use Rattle.reader.specs.Text.{lines, words, proper, is-name}
-use Rattle.ruletext.specs.Outcome.{Name, Contents, names, found, nothing, declared, added, check, then, known, all-names, numbers, new-name, declares, declared-kind, by-numbers, stating, by-form, by-kind, by-letter, by-first, only-letter, by-words, by-line, by-lines, counted, outcome}
+use Rattle.ruletext.specs.Outcome.{Name, Contents, names, found, nothing, declared, added, check, then, known, all-names, numbers, new-name, declares, declared-kind, by-numbers, stating, by-form, by-kind, by-letter, by-first, only-letter, by-words, by-line, by-lines, counted, by-text}
 use Rattle.reader.specs.Cut.{Each}
 use Rattle.ruletext.specs.Laws.{EachWith, words-of, DeclaredIn, Called, FieldsCalled, StatedIn, Apart, Orderly}
 
--- What an outcome that is no refusal says of the checks before it.
+-- What an by-text that is no refusal says of the checks before it.
 check-ok : {X : Type 0} (b : Bool) (e : Refusal) (r : Result X Refusal) (t : X) → check b e r ≡ Ok t → (b ≡ true) × (r ≡ Ok t)
 check-ok true e r t h = (refl, h)
 check-ok false e r t h = let z : _≡_ {A = ℕ} 0 1 = cc in absurd (omega arith)
@@ -295,7 +295,7 @@ no-names text Individual = (tt, tt)
 no-names text Class = (tt, tt)
 no-names text Role = (tt, tt)
 
-pub orderly : (text : List ℕ) (s : Contents) → outcome text ≡ Ok s → Orderly text s
+pub orderly : (text : List ℕ) (s : Contents) → by-text text ≡ Ok s → Orderly text s
 orderly text s e =
     let q = then-ok (by-lines 1 nothing (lines text)) counted s e in
     let k = kept-lines text 0 nothing (lines text) refl (q .0) (record { apart = λ k. no-names text k .0; told = λ k. no-names text k .1; stated = tt }) (q .1) in

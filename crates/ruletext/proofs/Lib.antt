@@ -7,3 +7,6 @@ pub mod States
 pub mod Lined
 pub mod Accepted
 pub mod Judged
+pub mod Fitted
+pub mod One
+pub mod Admitted

@@ -1,4 +1,5 @@
 pub mod Outcome
+pub mod Means
 pub mod Reading
 pub mod Laws
 pub mod Verdicts

@@ -1,4 +1,5 @@
--- What a rule text means: the names and statements that it gives, or the one refusal that it gets.
+-- What the lines of a rule text give: names and statements, or the one refusal that they get. Whether the statements are
+-- admissible is judged last, in Means.
 -- Lines are read in order, the checks of a line in the order below, and the first refusal decides.
 -- A refusal has a reason, a line and a word; lines and words count from 1.
 --   1  a byte that no line may have, or over 120 bytes     the line, word 1
@@ -169,6 +170,6 @@ counted s =
     check (within-limits (length (s .individuals)) (length (s .classes)) (length (s .roles)) (length (s .statements)))
     (at because.CountOutOfLimits 0 0) (Ok s)
 
--- The outcome of a text.
-abbrev pub outcome : List ℕ → Result Contents Refusal
-outcome text = then (by-lines 1 nothing (lines text)) counted
+-- What a text gives by its lines.
+abbrev pub by-text : List ℕ → Result Contents Refusal
+by-text text = then (by-lines 1 nothing (lines text)) counted

@@ -9,10 +9,14 @@ ghost use Rattle.std.specs.declared.option.Option.{Option as MayBe};
 ghost use Rattle.rules.specs.declared.forms.Kind.{Kind as KindOf};
 ghost use Rattle.rules.specs.Forms.{in-order};
 ghost use Rattle.reader.specs.Text.{words};
-ghost use Rattle.ruletext.specs.Outcome.{found, names as namesOf, declared, numbers, then, declares, stating, by-letter, by-line, counted, nothing, outcome};
+ghost use Rattle.ruletext.specs.Outcome.{found, names as namesOf, declared, numbers, then, declares, stating, by-letter, by-line, counted, nothing, by-text};
 ghost use Rattle.reader.specs.Cut.{LinesWhole};
 ghost use Rattle.ruletext.specs.Laws.{Orderly};
-ghost use Rattle.ruletext.specs.Reading.{spelt, contents};
+ghost use Rattle.ruletext.specs.Means.{Means, OneOutcome, BreaksAt};
+ghost use Rattle.roles.specs.Roles.{Admissible};
+ghost use Rattle.rules.specs.Fits.{all-fit};
+ghost use mathlib.Core.Bool.{true};
+ghost use Rattle.ruletext.specs.Reading.{spelt, contents, Counted};
 ghost use Rattle.rules.specs.Limits.{most};
 ghost use Rattle.std.specs.Vec.{made};
 use crate::letters::kind_of;
@@ -25,6 +29,8 @@ use crate::words::last_word;
 use reader::letters::is_proper;
 use reader::reader::Reader;
 use reader::reader::Word;
+use roles::admissible::first_breaking;
+use rules::base::RuleBase;
 use rules::counts::Counts;
 use rules::forms::FieldKinds;
 use rules::forms::Kind;
@@ -179,7 +185,7 @@ impl<'a> Rules<'a> {
 
     // The counts of names and statements; a text with too few is refused.
     fn counts(&self) -> Result<Counts, Refusal>
-        ensures { λ r. ⌜ Cases r (λ _. counted (contents (now (self .entry))) ≡ Ok (contents (now (self .entry)))) (λ e. counted (contents (now (self .entry))) ≡ Err e) ⌝ }
+        ensures { λ r. ⌜ Cases r (λ c. (counted (contents (now (self .entry))) ≡ Ok (contents (now (self .entry)))) × Counted c (contents (now (self .entry)))) (λ e. counted (contents (now (self .entry))) ≡ Err e) ⌝ }
     {
         Counts::new(
             self.individuals.len(),
@@ -220,27 +226,49 @@ impl<'a> Rules<'a> {
         self.lines.clear();
     }
 
-    // Reads a text where nothing has been read yet.
-    fn read_lines(&mut self, text: &'a [u8]) -> Result<(), Refusal>
+    // Reads the lines of a text where nothing has been read yet.
+    fn read_lines(&mut self, text: &'a [u8]) -> Result<Counts, Refusal>
         requires { ⌜ contents (now self) ≡ nothing ⌝ }
-        ensures { λ r. ⌜ Cases r (λ _. outcome (now (text .entry)) ≡ Ok (contents (now (self .exit)))) (λ e. outcome (now (text .entry)) ≡ Err e) ⌝ }
+        ensures { λ r. ⌜ Cases r (λ c. (by-text (now (text .entry)) ≡ Ok (contents (now (self .exit)))) × Counted c (contents (now (self .exit)))) (λ e. by-text (now (text .entry)) ≡ Err e) ⌝ }
     {
         let mut reader = Reader::new(text);
         while reader.next_line() {
             self.read_line(reader)?;
         }
-        let _counts = self.counts()?;
-        Ok(())
+        self.counts()
     }
 
-    /// Reads a rule text in place of what was read before: its names and statements, or its one refusal, which leaves nothing read.
+    // Refuses the first statement that breaks its condition.
+    fn admit(&self, counts: Counts) -> Result<(), Refusal>
+        requires { ⌜ Counted counts (contents (now self)) ⌝ ∗ ⌜ all-fit (counts .individuals) (counts .classes) (counts .roles) (contents (now self) .statements) ≡ true ⌝ }
+        ensures { λ r. ⌜ Cases r (λ _. Admissible (contents (now (self .entry)) .statements)) (λ e. BreaksAt (contents (now (self .entry))) e) ⌝ }
+    {
+        let base = RuleBase::new(counts, self.statements.as_slice());
+        match first_breaking(&base) {
+            None => Ok(()),
+            Some(place) => Err(refused_at(Reason::NotAdmissible, self.lines[place], 1)),
+        }
+    }
+
+    // Reads a text where nothing has been read yet.
+    fn read_text(&mut self, text: &'a [u8]) -> Result<(), Refusal>
+        requires { ⌜ contents (now self) ≡ nothing ⌝ }
+        ensures { λ r. ⌜ Cases r (λ _. Means (now (text .entry)) (Ok (contents (now (self .exit))))) (λ e. Means (now (text .entry)) (Err e)) ⌝ }
+    {
+        let counts = self.read_lines(text)?;
+        self.admit(counts)
+    }
+
+    /// Reads a rule text in place of what was read before: its names and statements, or its one refusal, which leaves
+    /// nothing read.
     pub fn read(&mut self, text: &'a [u8]) -> Result<(), Refusal>
-        ensures exact { λ r. ⌜ Cases r (λ _. outcome (now (text .entry)) ≡ Ok (contents (now (self .exit)))) (λ e. (outcome (now (text .entry)) ≡ Err e) × (contents (now (self .exit)) ≡ nothing)) ⌝ }
+        ensures exact { λ r. ⌜ Cases r (λ _. Means (now (text .entry)) (Ok (contents (now (self .exit))))) (λ e. Means (now (text .entry)) (Err e) × (contents (now (self .exit)) ≡ nothing)) ⌝ }
+        ensures one { λ _. ⌜ OneOutcome (now (text .entry)) ⌝ }
         ensures lines { λ _. ⌜ LinesWhole (now (text .entry)) ⌝ }
         ensures orderly { λ r. ⌜ Cases r (λ _. Orderly (now (text .entry)) (contents (now (self .exit)))) (λ _. Unit {0}) ⌝ }
     {
         self.clear();
-        match self.read_lines(text) {
+        match self.read_text(text) {
             Ok(()) => Ok(()),
             Err(refusal) => {
                 self.clear();

@@ -1,8 +1,7 @@
 // What the program says of its input: the counts of a text that can be read, or the fault.
-ghost use mathlib.Core.Path.{_≡_};
 ghost use Rattle.std.specs.declared.option.Option.the-variants.{Some};
 ghost use Rattle.ruletext.specs.Reading.{contents};
-ghost use Rattle.ruletext.specs.Verdicts.{verdict, verdict-text, judged, left-by};
+ghost use Rattle.ruletext.specs.Verdicts.{verdict-text, Told};
 use crate::letters::refused_at;
 use crate::rules::Rules;
 use rules::refusals::Reason;
@@ -23,8 +22,7 @@ pub enum Verdict {
 
 /// Judges an input of at most 16,384 bytes as a rule text, with the memory of `rules`.
 pub fn judge<'a>(rules: &mut Rules<'a>, input: &'a [u8]) -> Verdict
-    ensures value { λ r. ⌜ r ≡ verdict (judged (now (input .entry))) ⌝ }
-    ensures after { λ _. ⌜ contents (now (rules .exit)) ≡ left-by (judged (now (input .entry))) ⌝ }
+    ensures { λ r. ⌜ Told (now (input .entry)) r (contents (now (rules .exit))) ⌝ }
 {
     if input.len() > 16384 {
         rules.clear();

@@ -1,6 +1,6 @@
 use mathlib.Core.Path.{_≡_, refl, ap, sym, _∙_}
 use Rattle.std.specs.declared.result.Result.the-variants.{Err}
-use Rattle.std.proofs.shelf.Results.{err-from-errBy}
+use Rattle.std.proofs.shelf.Results.{err-from-errBy, cases-weaker}
 use Rattle.reader.specs.Text.{lines}
 use Rattle.ruletext.specs.Outcome.{by-lines, nothing}
 use Rattle.ruletext.specs.Reading.{contents}
@@ -22,11 +22,9 @@ returns-in-Break-read-line c =
     let p = err-from-errBy (c .from-residual .result) (c .from-residual .ensures .1) in
     rw (p .1, p .2) (r-refused (by-lines 1 nothing (lines (c .args .text .now))) (c .loop-reader .reader .line) (contents (c .loop-reader .self)) (lines-left (c .loop-reader .reader)) (c .loop-reader .inv) _ (q .line) _ _ (q .taken) (c .in-Break-read-line .field-0 .0) (c .in-Break-read-line .ensures tt))
 
-pub returns-in-Break--counts : need.returns-in-Break--counts
-returns-in-Break--counts c =
-    let p = err-from-errBy (c .from-residual-in-Break--counts .result) (c .from-residual-in-Break--counts .ensures .1) in
-    rw (p .1, p .2) (r-last (by-lines 1 nothing (lines (c .args .text .now))) (contents (c .loop-reader .self)) (r-end (by-lines 1 nothing (lines (c .args .text .now))) (c .loop-reader .reader .line) (contents (c .loop-reader .self)) (lines-left (c .loop-reader .reader)) (c .loop-reader .inv) (c .loop-reader-test .ensures tt .over)) _ (c .in-Break--counts .ensures tt))
-
 pub returns : need.returns
 returns c =
-    r-last (by-lines 1 nothing (lines (c .args .text .now))) (contents (c .loop-reader .self)) (r-end (by-lines 1 nothing (lines (c .args .text .now))) (c .loop-reader .reader .line) (contents (c .loop-reader .self)) (lines-left (c .loop-reader .reader)) (c .loop-reader .inv) (c .loop-reader-test .ensures tt .over)) _ (c .in-Continue--counts .ensures tt)
+    let all = r-end (by-lines 1 nothing (lines (c .args .text .now))) (c .loop-reader .reader .line) (contents (c .loop-reader .self)) (lines-left (c .loop-reader .reader)) (c .loop-reader .inv) (c .loop-reader-test .ensures tt .over) in
+    cases-weaker (c .counts .result) (c .counts .ensures)
+    (λ x p. (r-last (by-lines 1 nothing (lines (c .args .text .now))) (contents (c .loop-reader .self)) all _ (p .0), p .1))
+    (λ e p. r-last (by-lines 1 nothing (lines (c .args .text .now))) (contents (c .loop-reader .self)) all _ p)
