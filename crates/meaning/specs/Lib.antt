@@ -1,0 +1,4 @@
+pub mod Interpretations
+pub mod Meanings
+pub mod Theorems
+pub mod Answers
