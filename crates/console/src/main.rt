@@ -1,12 +1,13 @@
-// The console: reads an office's rule text from standard input and says whether it can be read.
+// The console: reads an office's rule text from standard input and says whether it can be read, and how many facts follow.
 ghost use Prim.Native.Nat.{_≤_};
 ghost use lib.ListN.{length};
 ghost use Rattle.std.specs.Vec.{made};
 use ruletext::rules::Rules;
-use ruletext::verdict::VerdictDisplay;
-use ruletext::verdict::judge;
+use slottable::Slot;
 use std::io;
 use std::io::Read;
+use survey::report::SurveyDisplay;
+use survey::report::tell;
 
 // Reads into a buffer until the input ends or the buffer is full.
 fn fill<R: Read>(input: &mut R, buffer: &mut [u8]) -> io::Result<usize>
@@ -30,6 +31,7 @@ fn main(rt: LibcRuntime) -> io::Result<()> {
     let mut input = rt.stdin();
     let len = fill(&mut input, &mut buffer)?;
     let mut rules = Rules::new(rt.alloc())?;
-    let verdict = judge(&mut rules, &buffer[0..len]);
-    println!(rt, "{verdict}")
+    let mut slots = [Slot::Free; 4096];
+    let survey = tell(&mut rules, &mut slots, &buffer[0..len]);
+    println!(rt, "{survey}")
 }
