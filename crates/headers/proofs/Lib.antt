@@ -1,0 +1,11 @@
+pub mod Tests
+pub mod Pieces
+pub mod Spelling
+pub mod Lines
+pub mod Rights
+pub mod Laying
+pub mod Forward
+pub mod Backward
+pub mod Listing
+pub mod Copying
+pub mod Judging
