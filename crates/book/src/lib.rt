@@ -2,6 +2,8 @@
 //
 // `standing` is the memory for the statements, `book` the book itself, and the other files its calls: `make`, the changes add and
 // withdraw, work, the questions ask, clash and report, and the files write and list.
+#![tactic(auto)]
+
 pub mod book;
 mod changes;
 mod listing;

@@ -1,5 +1,7 @@
 // Times the marking of generated books, in a word table and in a slot table: how many facts each has goes to standard output,
 // and how long it took to standard error.
+#![tactic(auto)]
+
 use marks::mark::{Marked, State, mark};
 use marks::rules::RuleSet;
 use marks::store::MarkStore;

@@ -1,4 +1,6 @@
 // The console: reads an office's rule text from standard input and says whether it can be read, and how many facts follow.
+#![tactic(auto)]
+
 ghost use Rattle.std.specs.Prelude.{◌≤◌, length, IfOk};
 
 use ruletext::rules::Rules;

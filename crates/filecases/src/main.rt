@@ -1,6 +1,8 @@
 // Files and rule texts, a line each: after `h` a header in hexadecimal, after `r` a recovery file, after `t` a rule text with
 // `;` for its line ends. Prints what reading each answers: the counts of a header, and that writing it again gives the same
 // bytes; the lengths of a recovery file's parts; the header of a text; or the refusal.
+#![tactic(auto)]
+
 mod texts;
 
 ghost use Rattle.std.specs.Prelude.{◌≡◌, ◌<◌, ◌≤◌, length, IfSome};

@@ -1,6 +1,8 @@
 // The vault header: a directory, three parts of names and a part of statements. `open_header` judges the format of any bytes
 // and hands out names as parts of them, without copying; `judge` goes on to counts and fields; `write_header` and `rewrite`
 // write the only bytes that hold given names and statements.
+#![tactic(auto)]
+
 pub mod directory;
 pub mod encode;
 pub mod header;

@@ -1,6 +1,8 @@
 // How long marking takes: a chain of numbers, each of which follows from the one before, in both stores and in two lengths.
 //
 // The counts go to standard output and are compared; the times go to standard error. Twice the length should take about twice the time.
+#![tactic(auto)]
+
 use edges::{Edge, Graph};
 use marks::mark::{LimitTooLow, Marked, mark};
 use marks::store::MarkStore;

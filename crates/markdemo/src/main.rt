@@ -1,4 +1,6 @@
 // Trials of the two mark stores and of marking. What they answer is compared with the file `stdout`.
+#![tactic(auto)]
+
 mod refused;
 
 ghost use Rattle.std.specs.Prelude.{◌≡◌, ◌<◌, length, MatchResult};

@@ -2,4 +2,6 @@
 // satisfies a statement, and what each kind of fact says in it; the contracts carry the theorems: proof trees are sound,
 // closed marks without a clash have a small countermodel, and yes, no and clash mean what they should. Nothing here knows
 // of stores, bytes or text.
+#![tactic(auto)]
+
 pub mod answers;

@@ -1,4 +1,6 @@
 // Trials of admissibility. What they answer is compared with the file `stdout`.
+#![tactic(auto)]
+
 use roles::admissible::first_breaking;
 use rules::base::RuleBase;
 use rules::statements::Statement;

@@ -1,4 +1,6 @@
 // Many rule texts in one input, parted by the byte 1E: prints what the program tells of each, a line a text.
+#![tactic(auto)]
+
 ghost use Rattle.std.specs.Prelude.{◌≤◌, length};
 
 use ruletext::rules::Rules;

@@ -5,7 +5,7 @@ pub returns-in-Some : goal.returns-in-Some
 returns-in-Some c = stops _ _ _ _ _ c.loop-place.invariant _ c.loop-place-test.true c.in-Some.ensures
 
 pub loop-place-preserved : goal.loop-place-preserved
-loop-place-preserved c = goes_on _ _ _ _ _ c.loop-place.invariant c.loop-place-test.true c.in-default.ensures
+loop-place-preserved c = goes_on _ _ _ _ _ c.loop-place.invariant c.loop-place-test.true c.in_default.ensures
 
 pub returns : goal.returns
 returns c = ends _ _ _ _ _ c.loop-place.invariant c.loop-place-test.false

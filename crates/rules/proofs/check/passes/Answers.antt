@@ -6,4 +6,4 @@ pub returns-then-counts-statements : goal.returns-then-counts-statements
 returns-then-counts-statements c = miscounted _ _ _ _ _ c.if-counts-statements.true
 
 pub returns : goal.returns
-returns c = turned _ ∙ sym (ap not c.is-none.ensures) ∙ counted _ _ _ _ _ _ c.if-counts-statements.false c.first-wrong.ensures
+returns c = turned _ ∙ sym (ap not c.is_none.ensures) ∙ counted _ _ _ _ _ _ c.if-counts-statements.false c.first_wrong.ensures

@@ -10,10 +10,10 @@ returns-in-err-counts c =
 
 pub returns-in-Some : goal.returns-in-Some
 returns-in-Some c =
-    let h = c.in-ok-counts.ensures in
+    let h = c.in_ok-counts.ensures in
     inside _ _ _ _ _ _ _ _ h.0 h.1 h.2 h.3 c.in-Some.ensures
 
 pub returns-in-None : goal.returns-in-None
 returns-in-None c =
-    let h = c.in-ok-counts.ensures in
+    let h = c.in_ok-counts.ensures in
     (inside _ _ _ _ _ _ _ _ h.0 h.1 h.2 h.3 c.in-None.ensures, h.1, h.2, h.3, h.4)
