@@ -6,8 +6,8 @@ use Rattle.reader.proofs.letters.all_line_bytes.Goals as goal
 pub loop-b-preserved : goal.loop-b-preserved
 loop-b-preserved c = all_more line_byte c.args.line.now c.loop-b.b-index (omega arith) (search rules) c.loop-b.invariant
 
-pub returns-then-not-is-line-byte : goal.returns-then-not-is-line-byte
-returns-then-not-is-line-byte c = all_stop line_byte c.args.line.now c.loop-b.b-index (omega arith) (search rules) c.loop-b.invariant
+pub returns-then-not-is_line_byte : goal.returns-then-not-is_line_byte
+returns-then-not-is_line_byte c = all_stop line_byte c.args.line.now c.loop-b.b-index (omega arith) (search rules) c.loop-b.invariant
 
 pub returns : goal.returns
 returns c = all_end line_byte c.args.line.now c.loop-b.b-index (omega arith) c.loop-b.invariant

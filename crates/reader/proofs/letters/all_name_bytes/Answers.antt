@@ -6,8 +6,8 @@ use Rattle.reader.proofs.letters.all_name_bytes.Goals as goal
 pub loop-b-preserved : goal.loop-b-preserved
 loop-b-preserved c = all_more name_byte c.args.word.now c.loop-b.b-index (omega arith) (search rules) c.loop-b.invariant
 
-pub returns-then-not-is-name-byte : goal.returns-then-not-is-name-byte
-returns-then-not-is-name-byte c = all_stop name_byte c.args.word.now c.loop-b.b-index (omega arith) (search rules) c.loop-b.invariant
+pub returns-then-not-is_name_byte : goal.returns-then-not-is_name_byte
+returns-then-not-is_name_byte c = all_stop name_byte c.args.word.now c.loop-b.b-index (omega arith) (search rules) c.loop-b.invariant
 
 pub returns : goal.returns
 returns c = all_end name_byte c.args.word.now c.loop-b.b-index (omega arith) c.loop-b.invariant

@@ -2,10 +2,10 @@ use Rattle.std.proofs.lemmas.Result.{err_from_is_err_and}
 use Rattle.rules.proofs.Checks.{outside, inside}
 use Rattle.rules.proofs.base.RuleBase.check.Goals as goal
 
-pub returns-in-err-counts : goal.returns-in-err-counts
-returns-in-err-counts c =
-    let p = err_from_is_err_and c.from-residual.result c.from-residual.ensures.1 in
-    let h = c.in-err-counts.ensures in
+pub returns-in_err-counts : goal.returns-in_err-counts
+returns-in_err-counts c =
+    let p = err_from_is_err_and c.from_residual.result c.from_residual.ensures.1 in
+    let h = c.in_err-counts.ensures in
     rw (p.1, p.2) (outside _ _ _ _ _ h.0 h.1)
 
 pub returns-in-Some : goal.returns-in-Some
