@@ -20,17 +20,17 @@ TOKEN = re.compile(r"(?<![\w'-])" + WORD)
 IMPORT = re.compile(r"^\s*(?:pub\s+)?(?:ghost\s+)?use\s+Rattle\.(?P<crate>\w+)\.(?P<path>[^{;]*)\.\{(?P<names>[^}]*)\}")
 # Fields of different records, which may share a name: seen by hand.
 TOGETHER = {"at-most"}
-# `ground` is a tactic of antt's now. The store's ghost member of that name, which is the ghost name of the lent memory, is `memory`, with the
+# `ground` is a tactic of antt's now. The store's ghost member of that name, which is the ghost name of the lent memory, is `lent`, with the
 # clauses about it; the field of `Grounded`, the ground by which a step is taken, is `given_by`.
 WORDS = [
-    (r"MarkStore\.ground\b", "MarkStore.memory"),
-    (r"\bs\.ground (?=l\.)", "s.memory "),
-    (r"\bghost ground\b", "ghost memory"),
-    (r"\bensures ground \{", "ensures memory {"),
-    (r"\bground([_-])kept\b", r"memory\1kept"),
-    (r"\{ ground self\.new ≡ ground self\.old \}", "{ memory self.new ≡ memory self.old }"),
-    (r"\bw\.ground\b", "w.memory"),
-    (r"record \{ ground = inv", "record { memory = inv"),
+    (r"MarkStore\.ground\b", "MarkStore.lent"),
+    (r"\bs\.ground (?=l\.)", "s.lent "),
+    (r"\bghost ground\b", "ghost lent"),
+    (r"\bensures ground \{", "ensures lent {"),
+    (r"\bground([_-])kept\b", r"lent\1kept"),
+    (r"\{ ground self\.new ≡ ground self\.old \}", "{ lent self.new ≡ lent self.old }"),
+    (r"\bw\.ground\b", "w.lent"),
+    (r"record \{ ground = inv", "record { lent = inv"),
     (r"record \{ ground = ([^;]*); takes", r"record { given_by = \1; takes"),
     (r"\bs\.ground\b", "s.given_by"),
     (r"^(  pub )ground : G$", r"\1given_by : G"),

@@ -192,7 +192,7 @@ impl<'a, S: MarkStore> Book<'a, S> {
         ensures refused { OnErr result (self.new.store.now ≡ self.old.store.now) }
         ensures limit_kept { S.MarkStore.limit self.new.store.now ≡ S.MarkStore.limit self.old.store.now }
         ensures capacity_kept { S.MarkStore.capacity self.new.store.now ≡ S.MarkStore.capacity self.old.store.now }
-        ensures memory_kept { S.MarkStore.memory self.new.store.now ≡ S.MarkStore.memory self.old.store.now }
+        ensures lent_kept { S.MarkStore.lent self.new.store.now ≡ S.MarkStore.lent self.old.store.now }
     {
         let Some(counts) = self.standing.counts else {
             return Err(not_ready());

@@ -63,7 +63,7 @@ fn file_facts<T: MarkStore>(
     ensures listed { (x : ℕ) → (T.MarkStore.held spare.new x ≡ true) ↔ TreeOf counts.individuals counts.classes counts.roles statements.now x }
     ensures limit_kept { T.MarkStore.limit spare.new ≡ T.MarkStore.limit spare.old }
     ensures capacity_kept { T.MarkStore.capacity spare.new ≡ T.MarkStore.capacity spare.old }
-    ensures memory_kept { T.MarkStore.memory spare.new ≡ T.MarkStore.memory spare.old }
+    ensures lent_kept { T.MarkStore.lent spare.new ≡ T.MarkStore.lent spare.old }
 {
     let rules = BookRules::over(RuleBase::new(counts, statements));
     let mut file = begin(out, header);
@@ -88,7 +88,7 @@ impl<'a, S: MarkStore> Book<'a, S> {
         ensures right { Asked (S.MarkStore.limit self.now.store.now) (state S.MarkStore.held self.now) ((result ≡ Err not_ready) × (out.new ≡ out.old) × (spare.new ≡ spare.old)) (λ s. ListRight (S.MarkStore.limit self.now.store.now) s given.now out.old out.new (T.MarkStore.limit spare.old) (T.MarkStore.capacity spare.old) (spare.new ≡ spare.old) (T.MarkStore.held spare.new) result) }
         ensures limit_kept { T.MarkStore.limit spare.new ≡ T.MarkStore.limit spare.old }
         ensures capacity_kept { T.MarkStore.capacity spare.new ≡ T.MarkStore.capacity spare.old }
-        ensures memory_kept { T.MarkStore.memory spare.new ≡ T.MarkStore.memory spare.old }
+        ensures lent_kept { T.MarkStore.lent spare.new ≡ T.MarkStore.lent spare.old }
     {
         let Some(counts) = self.standing.counts else {
             return Err(not_ready());

@@ -28,7 +28,7 @@ fn mark_facts<S: MarkStore>(
     ensures marking { MatchResult result (λ m. Marking (NumberSteps counts.individuals counts.classes counts.roles (if_passed (pass counts.individuals counts.classes counts.roles counts.statements statements.now) statements.now)) (S.MarkStore.held store.old) (S.MarkStore.held store.new) (S.MarkStore.limit store.old) (S.MarkStore.capacity store.old) most m.added m.state) (λ _. (S.MarkStore.limit store.old < fact_limit counts.individuals counts.classes counts.roles) × (store.new ≡ store.old)) }
     ensures limit_kept { S.MarkStore.limit store.new ≡ S.MarkStore.limit store.old }
     ensures capacity_kept { S.MarkStore.capacity store.new ≡ S.MarkStore.capacity store.old }
-    ensures memory_kept { S.MarkStore.memory store.new ≡ S.MarkStore.memory store.old }
+    ensures lent_kept { S.MarkStore.lent store.new ≡ S.MarkStore.lent store.old }
 {
     let rules = BookRules::over(RuleBase::new(counts, statements));
     mark(&rules, store, most)
@@ -51,7 +51,7 @@ impl<'a, S: MarkStore> Book<'a, S> {
         ensures lent { self.new.store.ghost_name ≡ self.old.store.ghost_name }
         ensures limit_kept { S.MarkStore.limit self.new.store.now ≡ S.MarkStore.limit self.old.store.now }
         ensures capacity_kept { S.MarkStore.capacity self.new.store.now ≡ S.MarkStore.capacity self.old.store.now }
-        ensures memory_kept { S.MarkStore.memory self.new.store.now ≡ S.MarkStore.memory self.old.store.now }
+        ensures lent_kept { S.MarkStore.lent self.new.store.now ≡ S.MarkStore.lent self.old.store.now }
     {
         let Book {
             store,

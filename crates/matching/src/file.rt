@@ -22,7 +22,7 @@ fn compare<S: MarkStore>(
     ensures compared { Compared header.now base.entry.counts.individuals base.entry.counts.classes base.entry.counts.roles base.entry.statements.now file.now (S.MarkStore.limit store.old) (S.MarkStore.capacity store.old) (store.new ≡ store.old) (S.MarkStore.held store.new) result }
     ensures limit_kept { S.MarkStore.limit store.new ≡ S.MarkStore.limit store.old }
     ensures capacity_kept { S.MarkStore.capacity store.new ≡ S.MarkStore.capacity store.old }
-    ensures memory_kept { S.MarkStore.memory store.new ≡ S.MarkStore.memory store.old }
+    ensures lent_kept { S.MarkStore.lent store.new ≡ S.MarkStore.lent store.old }
 {
     let parts = read_recovery(file)?;
     if store.limit() < fact_limit(base.counts) {
@@ -49,7 +49,7 @@ pub fn match_file<S: MarkStore>(
     ensures one { OneAnswer header.now file.now (S.MarkStore.limit store.old) (S.MarkStore.capacity store.old) }
     ensures limit_kept { S.MarkStore.limit store.new ≡ S.MarkStore.limit store.old }
     ensures capacity_kept { S.MarkStore.capacity store.new ≡ S.MarkStore.capacity store.old }
-    ensures memory_kept { S.MarkStore.memory store.new ≡ S.MarkStore.memory store.old }
+    ensures lent_kept { S.MarkStore.lent store.new ≡ S.MarkStore.lent store.old }
 {
     let mut memory = [Statement::Empty { class: 0 }; 384];
     let counts = take_header(header, &mut memory)?;

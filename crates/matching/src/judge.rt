@@ -72,7 +72,7 @@ pub(crate) fn judge_entries<S: MarkStore>(
     ensures went { WentOver base.entry.counts.individuals base.entry.counts.classes base.entry.counts.roles base.entry.statements.now (cut 14 part.now) (S.MarkStore.capacity store.old) (S.MarkStore.held store.new) result }
     ensures limit_kept { S.MarkStore.limit store.new ≡ S.MarkStore.limit store.old }
     ensures capacity_kept { S.MarkStore.capacity store.new ≡ S.MarkStore.capacity store.old }
-    ensures memory_kept { S.MarkStore.memory store.new ≡ S.MarkStore.memory store.old }
+    ensures lent_kept { S.MarkStore.lent store.new ≡ S.MarkStore.lent store.old }
 {
     let mut rest = part;
     let mut place = 1;

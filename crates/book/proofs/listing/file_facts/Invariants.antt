@@ -13,7 +13,7 @@ invariant-loop-found g l =
     × Entering c.individuals c.classes c.roles l.statements (length l.header) (s.held l.spare) l.initial.file.out.now l.file.out.now l.file.at
     × (s.limit l.spare ≡ s.limit l.initial.spare)
     × (s.capacity l.spare ≡ s.capacity l.initial.spare)
-    × (s.memory l.spare ≡ s.memory l.initial.spare)
+    × (s.lent l.spare ≡ s.lent l.initial.spare)
 
 abbrev pub decreases-loop-found : goal.decreases-loop-found
 decreases-loop-found g l = l.total - tally (g.T.MarkStore.held l.spare) (fact_limit l.counts.individuals l.counts.classes l.counts.roles)

@@ -9,7 +9,7 @@ use Rattle.std.proofs.lemmas.Bool.Decides.{Decides-eqb}
 pub returns-in-err-parts : goal.returns-in-err-parts
 returns-in-err-parts g c =
     let p = err_from_is_err_and c.from-residual.result c.from-residual.ensures.1 in
-    record { compared = by_file _ _ _ _ _ _ _ _ _ _ c.from-residual.result _ _ p.1 p.2 c.in-err-parts.ensures refl; limit-kept = refl; capacity-kept = refl; memory-kept = refl }
+    record { compared = by_file _ _ _ _ _ _ _ _ _ _ c.from-residual.result _ _ p.1 p.2 c.in-err-parts.ensures refl; limit-kept = refl; capacity-kept = refl; lent-kept = refl }
 
 pub returns-then-limit-fact-limit : goal.returns-then-limit-fact-limit
 returns-then-limit-fact-limit g c =
@@ -18,7 +18,7 @@ returns-then-limit-fact-limit g c =
       compared = by_limit _ _ _ _ _ _ _ _ _ _ c.store-too-small.result c.store-too-small.ensures right.right c.fact_limit.result c.fact_limit.ensures (omega (arith, c.limit.ensures)) refl;
       limit-kept = refl;
       capacity-kept = refl;
-      memory-kept = refl;
+      lent-kept = refl;
     }
 
 pub returns-then-eq : goal.returns-then-eq
@@ -30,7 +30,7 @@ returns-then-eq g c =
       compared = by_going _ _ _ _ _ _ _ _ _ _ _ _ parts (omega (arith, c.limit.ensures, c.fact_limit.ensures)) c.judge-entries.result _ ((slice_eq-Decides Decides-eqb _ _ _ c.eq.ensures).0 c.if-eq.true) clear.capacity-kept judged.went;
       limit-kept = judged.limit-kept ∙ clear.limit-kept;
       capacity-kept = judged.capacity-kept ∙ clear.capacity-kept;
-      memory-kept = judged.memory-kept ∙ clear.memory-kept;
+      lent-kept = judged.lent-kept ∙ clear.lent-kept;
     }
 
 pub returns-else-eq : goal.returns-else-eq
@@ -41,5 +41,5 @@ returns-else-eq g c =
       compared = by_header _ _ _ _ _ _ _ _ _ _ _ _ parts (omega (arith, c.limit.ensures, c.fact_limit.ensures)) (λ e. both_ways c.eq.result c.if-eq.false ((slice_eq-Decides Decides-eqb _ _ _ c.eq.ensures).1 e)) clear.empty;
       limit-kept = clear.limit-kept;
       capacity-kept = clear.capacity-kept;
-      memory-kept = clear.memory-kept;
+      lent-kept = clear.lent-kept;
     }

@@ -14,7 +14,7 @@ returns-in-default-good-number g c =
       went = ends_bad _ _ _ _ (base_fine c.args.base) _ _ _ _ _ i.0 _ _ _ i.2 i.3 (g.S.MarkStore.room c.loop-next.store) c.in-Some.next.entry _ (cut_more _ _ _ cut) cut.fits c.in-default-good-number.ensures;
       limit-kept = i.2;
       capacity-kept = i.3;
-      memory-kept = i.4;
+      lent-kept = i.4;
     }
 
 pub returns-in-Full : goal.returns-in-Full
@@ -27,7 +27,7 @@ returns-in-Full g c =
           c.in-Some-good-number.ensures c.requires.wide put.answer.2 _ put.set c.store-too-small.result c.store-too-small.ensures;
       limit-kept = put.limit-kept ∙ i.2;
       capacity-kept = put.capacity-kept ∙ i.3;
-      memory-kept = put.memory-kept ∙ i.4;
+      lent-kept = put.lent-kept ∙ i.4;
     }
 
 pub loop-next-preserved : goal.loop-next-preserved
@@ -45,7 +45,7 @@ loop-next-preserved g c =
       omega (arith, rest_long _ _ _ cut, i.1),
       put.limit-kept ∙ i.2,
       put.capacity-kept ∙ i.3,
-      put.memory-kept ∙ i.4,
+      put.lent-kept ∙ i.4,
     )
 
 pub returns-in-Some-missing-number : goal.returns-in-Some-missing-number
@@ -55,7 +55,7 @@ returns-in-Some-missing-number g c =
       went = ends_missing _ _ _ _ (base_fine c.args.base) _ _ _ _ _ i.0 _ _ _ i.2 i.3 (g.S.MarkStore.room c.loop-next.store) (cut_none _ c.in-default.ensures) _ c.in-Some-missing-number.ensures;
       limit-kept = i.2;
       capacity-kept = i.3;
-      memory-kept = i.4;
+      lent-kept = i.4;
     }
 
 pub returns-in-None : goal.returns-in-None
@@ -65,5 +65,5 @@ returns-in-None g c =
       went = ends_whole _ _ _ _ (base_fine c.args.base) _ _ _ _ _ i.0 _ _ _ i.2 i.3 (g.S.MarkStore.room c.loop-next.store) (cut_none _ c.in-default.ensures) c.in-None.ensures;
       limit-kept = i.2;
       capacity-kept = i.3;
-      memory-kept = i.4;
+      lent-kept = i.4;
     }

@@ -11,7 +11,7 @@ invariant-loop-next g l =
     × (l.place + length l.rest ≤ 1 + length l.part)
     × (s.limit l.store ≡ s.limit l.initial.store)
     × (s.capacity l.store ≡ s.capacity l.initial.store)
-    × (s.memory l.store ≡ s.memory l.initial.store)
+    × (s.lent l.store ≡ s.lent l.initial.store)
 
 abbrev pub decreases-loop-next : goal.decreases-loop-next
 decreases-loop-next g l = length l.rest

@@ -11,7 +11,7 @@ returns-then-limit-fact-limit g c =
       refused = refl;
       limit-kept = search rules;
       capacity-kept = search rules;
-      memory-kept = search rules;
+      lent-kept = search rules;
     }
 
 pub returns : goal.returns
@@ -23,5 +23,5 @@ returns g c =
       refused = tt;
       limit-kept = search rules;
       capacity-kept = search rules;
-      memory-kept = search rules;
+      lent-kept = search rules;
     }

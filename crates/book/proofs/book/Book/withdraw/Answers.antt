@@ -20,7 +20,7 @@ returns-in-err-fewer g c =
       refused = rw p.1 refl;
       limit-kept = search rules;
       capacity-kept = search rules;
-      memory-kept = search rules;
+      lent-kept = search rules;
     }
 
 pub returns : goal.returns
@@ -39,5 +39,5 @@ returns g c =
       refused = tt;
       limit-kept = search rules;
       capacity-kept = search rules;
-      memory-kept = search rules;
+      lent-kept = search rules;
     }

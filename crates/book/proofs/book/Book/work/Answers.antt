@@ -20,5 +20,5 @@ returns-in-Ok g c =
       lent = search rules;
       limit-kept = search rules;
       capacity-kept = search rules;
-      memory-kept = search rules;
+      lent-kept = search rules;
     }
