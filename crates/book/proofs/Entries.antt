@@ -25,7 +25,7 @@ use Rattle.headers.specs.Bytes.{joined}
 use Rattle.headers.specs.Output.{laid, fits}
 use Rattle.headers.proofs.Laying.{laid_none, laid_laid, laid_length}
 use Rattle.recovery.specs.Begun.{entry_bytes, two_pairs, begun_bytes, begun_output, begun_at, no_room, stands, recovery_bytes, Added}
-use Rattle.recovery.specs.Entries.{EntryFits}
+use Rattle.recovery.specs.EntryCuts.{EntryFits}
 use Rattle.recovery.specs.declared.entry.Entry.{Entry}
 use Rattle.recovery.proofs.Filling.{joined_length, fits_parts, fits_from, stands_from, closed}
 use Rattle.matching.specs.Complete.{entry_of, Good, AllGood, none}

@@ -11,7 +11,7 @@ use Rattle.calculus.specs.declared.terms.Fact.{Fact}
 use Rattle.reasoner.specs.Theorems.{TreeOf}
 use Rattle.headers.specs.Output.{laid, fits}
 use Rattle.recovery.specs.Begun.{entry_bytes, recovery_bytes, Added}
-use Rattle.recovery.specs.Entries.{EntryFits}
+use Rattle.recovery.specs.EntryCuts.{EntryFits}
 use Rattle.recovery.specs.declared.entry.Entry.{Entry}
 use Rattle.matching.specs.Complete.{entry_of, AllGood}
 

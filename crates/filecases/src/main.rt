@@ -1,15 +1,11 @@
-// Files and rule texts, a line each: after `h` a header in hexadecimal, after `r` a recovery file, after `t` a rule text with
-// `;` for its line ends. Prints what reading each answers: the counts of a header, and that writing it again gives the same
-// bytes; the lengths of a recovery file's parts; the header of a text; or the refusal.
+// Files in hexadecimal, a line each: after `h` a header, after `r` a recovery file. Prints what reading each answers: the
+// counts of a header, and that writing it again gives the same bytes; the lengths of a recovery file's parts; or the
+// refusal by its number, place and field.
 #![tactic(auto)]
-
-mod texts;
 
 ghost use Rattle.std.specs.Prelude.{◌≡◌, ◌<◌, ◌≤◌, length, IfSome};
 
-use crate::texts::{judge_text, text_of};
-use headers::header::Header;
-use intake::header::{read_header, take_header};
+use headers::header::{Header, read_header};
 use recovery::read::read_recovery;
 use rules::refusals::Refusal;
 use rules::statements::Statement;
@@ -60,32 +56,25 @@ fn print_refusal(rt: &HostRuntime, number: usize, refusal: Refusal) -> io::Resul
     println!(rt; "{number} refused {reason} place {place} field {field}")
 }
 
-// Whether writing the header again with these statements gives the same bytes.
-fn is_same(header: &Header<'_>, statements: &[Statement], bytes: &[u8]) -> bool {
+// Whether writing the header again gives the same bytes.
+fn is_same(header: &Header<'_>, bytes: &[u8]) -> bool {
+    let mut memory = [Statement::Empty { class: 0 }; 384];
     let mut output = [0u8; 13504];
-    match header.rewrite(statements, &mut output) {
+    let count = header.copy_statements(&mut memory);
+    match header.rewrite(&memory[0..count], &mut output) {
         Ok(size) => &output[0..size] == bytes,
         Err(_) => false,
     }
 }
 
-// The same with the statements that are taken from the bytes.
-fn is_same_taken(header: &Header<'_>, bytes: &[u8]) -> bool {
-    let mut memory = [Statement::Empty { class: 0 }; 384];
-    match take_header(bytes, &mut memory) {
-        Ok(counts) => is_same(header, &memory[0..counts.statements as usize], bytes),
-        Err(_) => false,
-    }
-}
-
-pub(crate) fn judge_header(rt: &HostRuntime, number: usize, bytes: &[u8]) -> io::Result<()> {
+fn judge_header(rt: &HostRuntime, number: usize, bytes: &[u8]) -> io::Result<()> {
     match read_header(bytes) {
         Ok(header) => {
             let n = header.tally.individuals;
             let k = header.tally.classes;
             let r = header.tally.roles;
             let m = header.tally.statements;
-            let same = is_same_taken(&header, bytes);
+            let same = is_same(&header, bytes);
             println!(rt; "{number} header {n} {k} {r} {m} same {same}")
         }
         Err(refusal) => print_refusal(rt, number, refusal),
@@ -107,11 +96,12 @@ fn judge_each(rt: &HostRuntime, input: &[u8]) -> io::Result<()> {
     let mut rest = input;
     for number in 1..1000 {
         let (line, more) = rest.split_at(line_end(rest));
-        if let [letter, written @ ..] = line {
-            match *letter {
-                b'h' => judge_header(rt, number, &bytes_of(rt, written)?)?,
-                b'r' => judge_recovery(rt, number, &bytes_of(rt, written)?)?,
-                _ => judge_text(rt, number, &text_of(rt, written)?)?,
+        if let [letter, hex @ ..] = line {
+            let bytes = bytes_of(rt, hex)?;
+            if *letter == b'h' {
+                judge_header(rt, number, &bytes)?;
+            } else {
+                judge_recovery(rt, number, &bytes)?;
             }
         }
         let [_, after @ ..] = more else {

@@ -11,8 +11,7 @@ use Rattle.rules.specs.declared.refusals.Refusal.{Refusal}
 use Rattle.rules.specs.declared.statements.Statement.{Statement}
 use Rattle.headers.specs.declared.record.Record.{Record}
 use Rattle.headers.specs.Bytes.{at, wide, long, two, four, slice, pieces, cut, even, all, joined}
-use Rattle.reader.specs.Text.{is_name}
-use Rattle.headers.specs.Names.{distinct, lines, line, ended, on_first, are_names}
+use Rattle.headers.specs.Names.{is_name, distinct, lines, line, ended, on_first, are_names}
 use Rattle.headers.specs.Records.{known_letter, is_record, record_in, record_bytes, stated_by, records_refusal}
 use Rattle.headers.specs.Header.{Header, offset, size, end, part, directory_refusal, are_records, records_in, statements_in, wrong_content, content_refusal, judgement, holding, refuse, judged, of_parts, decode, pair, directory, file_of, encode, renamed, Named}
 use Rattle.headers.specs.Theorems.{Bytes, Naming, Proper, OneFile, OnlyOne, AcceptedProper}

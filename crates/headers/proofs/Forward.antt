@@ -17,9 +17,8 @@ use Rattle.rules.specs.declared.refusals.Refusal.{Refusal}
 use Rattle.rules.specs.declared.statements.Fields.{Fields}
 use Rattle.rules.specs.declared.statements.Statement.{Statement}
 use Rattle.headers.specs.declared.record.Record.{Record}
-use Rattle.reader.specs.Text.{name_byte, is_name, all as all-bytes}
 use Rattle.headers.specs.Bytes.{at, wide, long, two, four, slice, pieces, cut, even, all, joined}
-use Rattle.headers.specs.Names.{distinct, lines, line, ended, on_first, are_names}
+use Rattle.headers.specs.Names.{name_byte, is_name, distinct, lines, line, ended, on_first, are_names}
 use Rattle.headers.specs.Records.{known_letter, is_record, record_in, record_bytes, stated_by, records_refusal}
 use Rattle.headers.specs.Header.{Header, offset, size, end, part, starts, directory_refusal, are_records, records_in, statements_in, content_refusal, judgement, holding, refuse, judged, of_parts, decode, pair, directory, file_of, encode}
 use Rattle.headers.specs.Theorems.{Naming, Proper, ReadBack}
@@ -37,16 +36,15 @@ byte_free b e =
       | inr f ↦ f
     ]
 
-name_free : (x : List ℕ) → all-bytes name_byte x ≡ true → Free x
-unfolding all-bytes
+name_free : (x : List ℕ) → all name_byte x ≡ true → Free x
 name_free [] e = tt
-name_free (b ∷ bs) e = let p = and_parts (name_byte b) (all-bytes name_byte bs) e in (byte_free b p.0, name_free bs p.1)
+name_free (b ∷ bs) e = let p = and_parts (name_byte b) (all name_byte bs) e in (byte_free b p.0, name_free bs p.1)
 
 name_free_of_end : (x : List ℕ) → is_name x ≡ true → Free x
-name_free_of_end x e = name_free x (and_parts (leb 1 (length x) && leb (length x) 24) (all-bytes name_byte x) e).1
+name_free_of_end x e = name_free x (and_parts (leb (length x) 24) (all name_byte x) (and_parts (leb 1 (length x)) (leb (length x) 24 && all name_byte x) e).1).1
 
 name_short : (x : List ℕ) → is_name x ≡ true → length x ≤ 24
-name_short x e = leb-true (length x) 24 (and_parts (leb 1 (length x)) (leb (length x) 24) (and_parts (leb 1 (length x) && leb (length x) 24) (all-bytes name_byte x) e).0).1
+name_short x e = leb-true (length x) 24 (and_parts (leb (length x) 24) (all name_byte x) (and_parts (leb 1 (length x)) (leb (length x) 24 && all name_byte x) e).1).0
 
 lines_joined : (ns : List (List ℕ)) → all is_name ns ≡ true → lines (joined line ns) ≡ ns
 lines_joined [] e = refl

@@ -1,7 +1,7 @@
 -- Names written one by one.
 use Rattle.std.proofs.Common.{◌≡◌, ℕ, ◌+◌, ◌-◌, ◌<◌, ◌≤◌, List, [], ◌∷◌, ◌++◌, map, length, get_or, take, sym, refl, ap, ◌∙◌, arith, length-append}
 use Rattle.rules.specs.declared.statements.Statement.{Statement}
-use Rattle.reader.specs.declared.reader.Word.{Word}
+use Rattle.headers.specs.declared.encode.Name.{Name}
 use Rattle.headers.specs.Bytes.{joined}
 use Rattle.headers.specs.Names.{line}
 use Rattle.headers.specs.Records.{record_bytes}
@@ -11,10 +11,10 @@ use Rattle.headers.specs.Spelt.{spelling, name_line, listing}
 use Rattle.headers.proofs.Laying.{next_size, prefix_length, joined_more}
 
 -- what stands past the end of a list of names
-abbrev pub no_name : Word
-no_name = record { bytes = record { ref_ptr = (0, 0); now = [] }; line = 0; word = 0 }
+abbrev pub no_name : Name
+no_name = record { bytes = record { ref_ptr = (0, 0); now = [] } }
 
-module _ (names : List Word) (i : ℕ) (d : Word) (l : i < length names) where
+module _ (names : List Name) (i : ℕ) (d : Name) (l : i < length names) where
   pub size_next : length (joined name_line (take (i + 1) names)) ≡ length (joined name_line (take i names)) + (length (spelling (get_or names i d)) + 1)
   size_next = next_size name_line names i d l ∙ ap (λ k. length (joined name_line (take i names)) + k) (length-append (spelling (get_or names i d)) (10 ∷ []))
 
@@ -24,11 +24,11 @@ module _ (names : List Word) (i : ℕ) (d : Word) (l : i < length names) where
   pub fits_next : (o : List ℕ) (at to : ℕ) → at + length (joined name_line names) ≤ length o → to ≡ at + length (joined name_line (take i names)) → to + (length (spelling (get_or names i d)) + 1) ≤ length o
   fits_next o at to h e = omega (arith, h, e, size_next, prefix_length name_line names (i + 1))
 
-joined_map : (names : List Word) → joined line (map spelling names) ≡ joined name_line names
+joined_map : (names : List Name) → joined line (map spelling names) ≡ joined name_line names
 joined_map [] = refl
 joined_map (x ∷ xs) = ap (λ v. name_line x ++ v) (joined_map xs)
 
-pub listing_is : (x c v : List Word) (ss : List Statement) → file_of (joined name_line x) (joined name_line c) (joined name_line v) (joined record_bytes ss) ≡ encode (listing x c v ss)
+pub listing_is : (x c v : List Name) (ss : List Statement) → file_of (joined name_line x) (joined name_line c) (joined name_line v) (joined record_bytes ss) ≡ encode (listing x c v ss)
 listing_is x c v ss =
     ap (λ a. file_of a (joined name_line c) (joined name_line v) (joined record_bytes ss)) (sym (joined_map x))
     ∙ (ap (λ a. file_of (joined line (map spelling x)) a (joined name_line v) (joined record_bytes ss)) (sym (joined_map c))

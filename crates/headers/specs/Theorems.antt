@@ -3,8 +3,7 @@
 use Rattle.std.specs.Prelude.{◌≡◌, ℕ, ◌<◌, Bool, true, List, length, None, Ok}
 use Rattle.rules.specs.Fits.{base_refusal}
 use Rattle.headers.specs.Bytes.{at, all}
-use Rattle.reader.specs.Text.{is_name}
-use Rattle.headers.specs.Names.{distinct}
+use Rattle.headers.specs.Names.{is_name, distinct}
 use Rattle.headers.specs.Header.{Header, decode, encode}
 
 -- Names of a kind: each is a name, and none stands twice.

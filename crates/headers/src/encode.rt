@@ -9,9 +9,14 @@ ghost use Rattle.headers.specs.Theorems.{ReadBack};
 ghost use Rattle.headers.specs.Spelt.{name_line, listing};
 
 use crate::output::{copy_at, put_directory, put_records, too_short, total};
-use reader::reader::Word;
 use rules::refusals::Refusal;
 use rules::statements::Statement;
+
+/// A name to be written, without its end.
+#[derive(Clone, Copy)]
+pub struct Name<'a> {
+    pub bytes: &'a [u8],
+}
 
 // A name and its end.
 fn put_line(out: &mut [u8], at: usize, name: &[u8])
@@ -23,7 +28,7 @@ fn put_line(out: &mut [u8], at: usize, name: &[u8])
 }
 
 // How long names are with their ends, if 32 bits can say it.
-fn names_size(names: &[Word<'_>]) -> Option<usize>
+fn names_size(names: &[Name<'_>]) -> Option<usize>
     ensures { MatchOption result (4294967296 ≤ length (joined name_line names.now)) (λ n. (n ≡ length (joined name_line names.now)) × (n < 4294967296)) }
 {
     let mut size = 0;
@@ -38,7 +43,7 @@ fn names_size(names: &[Word<'_>]) -> Option<usize>
 }
 
 // The names of a part; answers where they end.
-fn put_names(out: &mut [u8], at: usize, names: &[Word<'_>]) -> usize
+fn put_names(out: &mut [u8], at: usize, names: &[Name<'_>]) -> usize
     requires { at + length (joined name_line names.now) ≤ length out.old }
     ensures bytes { out.new ≡ laid out.old at (joined name_line names.now) }
     ensures end { result ≡ at + length (joined name_line names.now) }
@@ -54,9 +59,9 @@ fn put_names(out: &mut [u8], at: usize, names: &[Word<'_>]) -> usize
 
 // Writes names and statements as a header, and answers its length.
 fn write_lists(
-    individuals: &[Word<'_>],
-    classes: &[Word<'_>],
-    roles: &[Word<'_>],
+    individuals: &[Name<'_>],
+    classes: &[Name<'_>],
+    roles: &[Name<'_>],
     statements: &[Statement],
     out: &mut [u8],
 ) -> Result<usize, Refusal>
@@ -85,12 +90,12 @@ fn write_lists(
     Ok(n)
 }
 
-/// Writes the header of the given names, parts of a text, and statements, and answers its length. Neither is judged; where
-/// they are in order, the header reads back as them.
+/// Writes the header of the given names and statements, and answers its length. Neither is judged; where they are in order,
+/// the header reads back as them.
 pub fn write_header(
-    individuals: &[Word<'_>],
-    classes: &[Word<'_>],
-    roles: &[Word<'_>],
+    individuals: &[Name<'_>],
+    classes: &[Name<'_>],
+    roles: &[Name<'_>],
     statements: &[Statement],
     out: &mut [u8],
 ) -> Result<usize, Refusal>

@@ -1,11 +1,11 @@
-// A header in bytes: opened, which is judging its directory and its contents; then its counts and fields are judged.
+// A header in bytes: opened, which is judging its directory and its contents, and read, which is judging all of it.
 ghost use Rattle.std.specs.Prelude.{◌≡◌, ℕ, ◌+◌, ◌-◌, ◌*◌, ◌<◌, ◌≤◌, true, false, [], length, Some, None, Ok, Err, MatchOption, MatchResult, slice_index_or};
 ghost use Rattle.rules.specs.Refusals.{refusal};
 ghost use Rattle.rules.specs.declared.refusals.Reason.TheVariants.{WrongContent};
 ghost use Rattle.headers.specs.Names.{lines};
-ghost use Rattle.headers.specs.Header.{directory_refusal, content_refusal, judgement, records_in, statements_in, contents};
+ghost use Rattle.headers.specs.Header.{directory_refusal, content_refusal, judgement, records_in, statements_in, contents, decode};
 ghost use Rattle.headers.specs.Theorems.{OnlyOne};
-ghost use Rattle.headers.specs.Views.{Cut, Held, Opened, Copied, part_of};
+ghost use Rattle.headers.specs.Views.{Cut, Held, Opened, Reads, Copied, part_of};
 
 use crate::directory::{FourEnds, ends};
 use crate::names::{count_names, name_at};
@@ -122,11 +122,9 @@ impl<'a> Header<'a> {
         copy_statements(self.parts.statements, memory)
     }
 
-    /// The counts of an opened header, if they are within their limits and all fields fit. A file that passes is the only one
-    /// with its names and statements.
+    /// The counts of an opened header, if they are within their limits and all fields fit.
     pub fn judge(&self) -> Result<Counts, Refusal>
-        ensures exact { MatchResult result (λ c. (judgement self.now.tally.individuals self.now.tally.classes self.now.tally.roles self.now.tally.statements (records_in self.now.parts.statements.now) ≡ None) × (c.individuals ≡ self.now.tally.individuals) × (c.classes ≡ self.now.tally.classes) × (c.roles ≡ self.now.tally.roles) × (c.statements ≡ self.now.tally.statements)) (λ e. judgement self.now.tally.individuals self.now.tally.classes self.now.tally.roles self.now.tally.statements (records_in self.now.parts.statements.now) ≡ Some e) }
-        ensures only { OnlyOne }
+        ensures { MatchResult result (λ c. (judgement self.now.tally.individuals self.now.tally.classes self.now.tally.roles self.now.tally.statements (records_in self.now.parts.statements.now) ≡ None) × (c.individuals ≡ self.now.tally.individuals) × (c.classes ≡ self.now.tally.classes) × (c.roles ≡ self.now.tally.roles) × (c.statements ≡ self.now.tally.statements)) (λ e. judgement self.now.tally.individuals self.now.tally.classes self.now.tally.roles self.now.tally.statements (records_in self.now.parts.statements.now) ≡ Some e) }
     {
         let tally = self.tally;
         let counts = Counts::new(
@@ -138,4 +136,14 @@ impl<'a> Header<'a> {
         check_fields(counts, self.parts.statements)?;
         Ok(counts)
     }
+}
+
+/// The header in a file, or its one refusal.
+pub fn read_header(bytes: &[u8]) -> Result<Header<'_>, Refusal>
+    ensures exact { MatchResult result (λ h. Reads bytes.now h.parts.individuals.now h.parts.classes.now h.parts.roles.now h.parts.statements.now h.tally.individuals h.tally.classes h.tally.roles h.tally.statements) (λ e. decode bytes.now ≡ Err e) }
+    ensures only { OnlyOne }
+{
+    let header = open_header(bytes)?;
+    let _counts = header.judge()?;
+    Ok(header)
 }

@@ -1,6 +1,6 @@
-// The vault header: a directory, three parts of names and a part of statements. `open_header` judges the format of any bytes
-// and hands out names as parts of them, without copying; `judge` goes on to counts and fields; `write_header` and `rewrite`
-// write the only bytes that hold given names and statements.
+// The vault header: a directory, three parts of names and a part of statements. `open_header` and `read_header` judge any
+// bytes and hand out names as parts of them, without copying; `write_header` and `rewrite` write the only bytes that hold
+// given names and statements.
 #![tactic(auto)]
 
 pub mod directory;

@@ -12,7 +12,7 @@ use Rattle.calculus.proofs.Contained.{trees_inside}
 use Rattle.calculus.specs.declared.terms.Ground.{Ground}
 use Rattle.calculus.specs.declared.terms.Fact.{Fact}
 use Rattle.recovery.specs.Begun.{entry_bytes}
-use Rattle.recovery.specs.Entries.{EntryFits}
+use Rattle.recovery.specs.EntryCuts.{EntryFits}
 use Rattle.recovery.specs.declared.entry.Entry.{Entry}
 use Rattle.recovery.proofs.Cutting.{entry_same}
 use Rattle.matching.specs.Complete.{entry_of, Good, AllGood, none, more}

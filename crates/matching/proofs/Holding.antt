@@ -14,7 +14,7 @@ use Rattle.calculus.specs.declared.terms.Ground.{Ground}
 use Rattle.calculus.specs.declared.terms.Fact.{Fact}
 use Rattle.grounds.specs.Given.{Held, GivesHeld}
 use Rattle.recovery.specs.Begun.{entry_bytes}
-use Rattle.recovery.specs.Entries.{EntryFits}
+use Rattle.recovery.specs.EntryCuts.{EntryFits}
 use Rattle.recovery.specs.declared.entry.Entry.{Entry}
 use Rattle.matching.specs.Complete.{Good}
 use Rattle.matching.specs.Entries.{Tells}

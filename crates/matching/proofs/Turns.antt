@@ -18,7 +18,7 @@ use Rattle.headers.specs.Bytes.{pieces, cut}
 use Rattle.reasoner.specs.Theorems.{NumberSteps}
 use Rattle.reasoner.proofs.Trees.{trees_numbered}
 use Rattle.recovery.specs.Begun.{entry_bytes}
-use Rattle.recovery.specs.Entries.{EntryFits, EntryCut}
+use Rattle.recovery.specs.EntryCuts.{EntryFits, EntryCut}
 use Rattle.recovery.specs.declared.entry.Entry.{Entry}
 use Rattle.matching.specs.Complete.{Good, AllGood, none}
 use Rattle.matching.specs.Going.{GoodByHeld, GoodNumber, BadByHeld}

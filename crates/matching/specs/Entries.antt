@@ -12,7 +12,7 @@ use Rattle.calculus.specs.Steps.{Gives}
 use Rattle.calculus.specs.Numbers.{Inside}
 use Rattle.calculus.specs.declared.terms.Ground.{Ground}
 use Rattle.calculus.specs.declared.terms.Fact.{Fact}
-use Rattle.recovery.specs.Entries.{EntryFits}
+use Rattle.recovery.specs.EntryCuts.{EntryFits}
 use Rattle.recovery.specs.declared.entry.Entry.{Entry}
 use Rattle.matching.specs.Complete.{entry_of}
 

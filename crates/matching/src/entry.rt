@@ -4,7 +4,7 @@ ghost use Rattle.calculus.specs.Terms.{first_number, second_number, ground_of};
 ghost use Rattle.calculus.specs.Numbers.{first_terms, FirstInside, SecondInside};
 ghost use Rattle.calculus.specs.declared.terms.Fact.{Fact};
 ghost use Rattle.calculus.specs.declared.terms.Ground.{Ground};
-ghost use Rattle.recovery.specs.Entries.{EntryFits};
+ghost use Rattle.recovery.specs.EntryCuts.{EntryFits};
 ghost use Rattle.matching.specs.Complete.{entry_of};
 ghost use Rattle.matching.specs.Entries.{Tells, TellsNone, ToldOnce, GivenFits, ground_in, made};
 

@@ -5,7 +5,7 @@ use Rattle.headers.specs.Bytes.{at, wide, two}
 use Rattle.headers.specs.Theorems.{Bytes}
 use Rattle.recovery.specs.declared.entry.Entry.{Entry}
 use Rattle.recovery.specs.Begun.{entry_bytes}
-use Rattle.recovery.specs.Entries.{EntryFits, EntryCut}
+use Rattle.recovery.specs.EntryCuts.{EntryFits, EntryCut}
 
 -- n bytes from the place k on
 abbrev listed : ℕ → ℕ → List ℕ → List ℕ

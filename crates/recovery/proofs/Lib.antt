@@ -1,3 +1,4 @@
 pub mod Reading
 pub mod Filling
+pub mod Verdicts
 pub mod Cutting

@@ -1,3 +1,4 @@
 pub mod Begun
 pub mod Recovery
 pub mod Entries
+pub mod EntryCuts

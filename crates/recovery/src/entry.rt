@@ -1,6 +1,6 @@
 // An entry of a recovery file, and entries taken off bytes.
 ghost use Rattle.std.specs.Prelude.{◌≡◌, ◌+◌, ◌*◌, ◌<◌, length, MatchOption};
-ghost use Rattle.recovery.specs.Entries.{EntryCut};
+ghost use Rattle.recovery.specs.EntryCuts.{EntryCut};
 
 /// A fact and its ground: the fact's letter, the number of the rule, the first term, the role, the second term or target,
 /// the place of the statement plus 1, and the witnesses u and w; 0 for what is unused. It is written as it is.
