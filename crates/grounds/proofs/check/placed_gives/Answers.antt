@@ -10,6 +10,6 @@ pub returns : goal.returns
 returns g c =
     let s = c.args.statement in
     let t = c.said_gives.result in
-    let d = subst (λ o. Decides t (SaidGives c.args.counts.individuals c.args.counts.classes c.args.counts.roles (g.S.MarkStore.held c.args.store.now) c.args.f c.args.w o c.args.p c.lines-of.result)) c.key-of.ensures c.said_gives.ensures in
-    said_decides c.args.counts.individuals c.args.counts.classes c.args.counts.roles [] (g.S.MarkStore.held c.args.store.now) c.args.f c.args.w c.args.p s t c.in-default.not-Empty
-    (subst (λ o. Decides t (SaidGives c.args.counts.individuals c.args.counts.classes c.args.counts.roles (g.S.MarkStore.held c.args.store.now) c.args.f c.args.w (key s) c.args.p o)) c.lines-of.ensures d)
+    let d = subst (λ o. Decides t (SaidGives c.args.counts.individuals c.args.counts.classes c.args.counts.roles (g.S.MarkStore.held c.args.store.now) c.args.f c.args.w o c.args.p c.lines_of.result)) c.key_of.ensures c.said_gives.ensures in
+    said_decides c.args.counts.individuals c.args.counts.classes c.args.counts.roles [] (g.S.MarkStore.held c.args.store.now) c.args.f c.args.w c.args.p s t c.in_default.not-Empty
+    (subst (λ o. Decides t (SaidGives c.args.counts.individuals c.args.counts.classes c.args.counts.roles (g.S.MarkStore.held c.args.store.now) c.args.f c.args.w (key s) c.args.p o)) c.lines_of.ensures d)

@@ -10,25 +10,25 @@ use Rattle.headers.proofs.encode.put_names.Goals as goal
 pub loop-i-init : goal.loop-i-init
 loop-i-init c = (sym (laid_none c.args.out.now c.args.at), omega arith)
 
-pub put-line-requires : goal.put-line-requires
-put-line-requires c =
+pub put_line-requires : goal.put_line-requires
+put_line-requires c =
     let f = fits_next c.args.names.now c.loop-i.i no_name c.loop-i-test.true c.args.out.now c.args.at c.loop-i.to c.requires c.loop-i.invariant.1 in
     omega (arith, f, c.loop-i.auto.out)
 
-pub overflow-add-to : goal.overflow-add-to
-overflow-add-to c =
+pub overflow_add-to : goal.overflow_add-to
+overflow_add-to c =
     let f = fits_next c.args.names.now c.loop-i.i no_name c.loop-i-test.true c.args.out.now c.args.at c.loop-i.to c.requires c.loop-i.invariant.1 in
     omega (arith, f)
 
-pub overflow-add-to-in-loop-i : goal.overflow-add-to-in-loop-i
-overflow-add-to-in-loop-i c =
+pub overflow_add-to-in-loop-i : goal.overflow_add-to-in-loop-i
+overflow_add-to-in-loop-i c =
     let f = fits_next c.args.names.now c.loop-i.i no_name c.loop-i-test.true c.args.out.now c.args.at c.loop-i.to c.requires c.loop-i.invariant.1 in
     omega (arith, f)
 
 pub loop-i-preserved : goal.loop-i-preserved
 loop-i-preserved c =
     let i = c.loop-i.invariant in (
-      c.put-line.ensures ∙ joined_more name_line c.args.names.now c.loop-i.i no_name c.loop-i-test.true c.args.out.now c.loop-i.out c.args.at c.loop-i.to c.requires i.0 i.1,
+      c.put_line.ensures ∙ joined_more name_line c.args.names.now c.loop-i.i no_name c.loop-i-test.true c.args.out.now c.loop-i.out c.args.at c.loop-i.to c.requires i.0 i.1,
       omega (arith, i.1, size_next c.args.names.now c.loop-i.i no_name c.loop-i-test.true),
     )
 

@@ -12,6 +12,6 @@ returns c =
     let a = c.args in
     let x = a.individuals.now in let k = a.classes.now in let v = a.roles.now in let ss = a.statements.now in
     record {
-      bytes = written_as c.write-lists.result a.out.now c.write-lists.new.out (file_of (joined name_line x) (joined name_line k) (joined name_line v) (joined record_bytes ss)) (encode (listing x k v ss)) (listing_is x k v ss) c.write-lists.ensures;
+      bytes = written_as c.write_lists.result a.out.now c.write_lists.new.out (file_of (joined name_line x) (joined name_line k) (joined name_line v) (joined record_bytes ss)) (encode (listing x k v ss)) (listing_is x k v ss) c.write_lists.ensures;
       back = read_back;
     }

@@ -4,28 +4,28 @@ use Rattle.headers.proofs.Judging.{contents_refused, refused_from, reads_from}
 use Rattle.headers.proofs.Backward.{only_one}
 use Rattle.headers.proofs.header.read_header.Goals as goal
 
-pub returns-in-err-header : goal.returns-in-err-header
-returns-in-err-header c =
-    let p = err_from_is_err_and c.from-residual.result c.from-residual.ensures.1 in
-    record { exact = rw (p.1, p.2) (contents_refused c.args.bytes.now _ c.in-err-header.ensures); only = only_one }
+pub returns-in_err-header : goal.returns-in_err-header
+returns-in_err-header c =
+    let p = err_from_is_err_and c.from_residual.result c.from_residual.ensures.1 in
+    record { exact = rw (p.1, p.2) (contents_refused c.args.bytes.now _ c.in_err-header.ensures); only = only_one }
 
-pub returns-in-err--counts : goal.returns-in-err--counts
-returns-in-err--counts c =
-    let h = c.in-ok-header.header in
-    let o = c.in-ok-header.ensures in
-    let p = err_from_is_err_and c.from-residual-in-err--counts.result c.from-residual-in-err--counts.ensures.1 in
+pub returns-in_err-_counts : goal.returns-in_err-_counts
+returns-in_err-_counts c =
+    let h = c.in_ok-header.header in
+    let o = c.in_ok-header.ensures in
+    let p = err_from_is_err_and c.from_residual-in_err-_counts.result c.from_residual-in_err-_counts.ensures.1 in
     record {
       exact = rw (p.1, p.2) (refused_from c.args.bytes.now h.parts.individuals.now h.parts.classes.now h.parts.roles.now h.parts.statements.now o.cut
-          h.tally.individuals h.tally.classes h.tally.roles h.tally.statements o.held _ c.in-err--counts.ensures);
+          h.tally.individuals h.tally.classes h.tally.roles h.tally.statements o.held _ c.in_err-_counts.ensures);
       only = only_one;
     }
 
 pub returns : goal.returns
 returns c =
-    let h = c.in-ok-header.header in
-    let o = c.in-ok-header.ensures in
+    let h = c.in_ok-header.header in
+    let o = c.in_ok-header.ensures in
     record {
       exact = reads_from c.args.bytes.now h.parts.individuals.now h.parts.classes.now h.parts.roles.now h.parts.statements.now o.cut
-          h.tally.individuals h.tally.classes h.tally.roles h.tally.statements o.held (λ k. omega (arith, c.type-inv.bytes k)) c.in-ok--counts.ensures.0;
+          h.tally.individuals h.tally.classes h.tally.roles h.tally.statements o.held (λ k. omega (arith, c.type_inv.bytes k)) c.in_ok-_counts.ensures.0;
       only = only_one;
     }

@@ -17,4 +17,4 @@ pub loop-one-smaller : goal.loop-one-smaller
 loop-one-smaller c = shorter c.loop-one.rest.now c.in-Some.one.now c.in-Some.after.now c.in-Some.ensures.0
 
 pub returns : goal.returns
-returns c = omega (arith, c.loop-one.invariant.1, none_none c.loop-one.rest.now c.in-default.ensures)
+returns c = omega (arith, c.loop-one.invariant.1, none_none c.loop-one.rest.now c.in_default.ensures)

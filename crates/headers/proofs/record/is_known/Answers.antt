@@ -5,4 +5,4 @@ use Rattle.headers.proofs.record.is_known.Goals as goal
 
 pub returns : goal.returns
 unfolding known_letter
-returns c = c.is-some.ensures ∙ ap is_some (c.field-kinds.ensures ∙ ap fields_of_form c.from.ensures)
+returns c = c.is_some.ensures ∙ ap is_some (c.field_kinds.ensures ∙ ap fields_of_form c.from.ensures)

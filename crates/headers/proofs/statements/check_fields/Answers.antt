@@ -13,11 +13,11 @@ loop-record-preserved c =
     let f = c.in-Some.ensures in
     let b : List ℕ = c.loop-record.rest.now in
     let l : length c.in-Some.after.now ≡ length b - 8 = ap length f.3 ∙ length-drop 8 b in (
-      c.loop-record.invariant.0 ∙ fields_step _ _ _ c.loop-record.place c.loop-record.rest.now c.in-Some.after.now c.in-Some.record f.0 f.2 f.3 c.in-default-wrong.ensures,
+      c.loop-record.invariant.0 ∙ fields_step _ _ _ c.loop-record.place c.loop-record.rest.now c.in-Some.after.now c.in-Some.record f.0 f.2 f.3 c.in_default-wrong.ensures,
       omega (arith, l, f.0, c.loop-record.invariant.1),
     )
 
 pub returns : goal.returns
 returns c =
     let n = c.args.counts in
-    c.loop-record.invariant.0 ∙ ap (records_refusal n.individuals n.classes n.roles c.loop-record.place) (records_none c.loop-record.rest.now c.in-default.ensures)
+    c.loop-record.invariant.0 ∙ ap (records_refusal n.individuals n.classes n.roles c.loop-record.place) (records_none c.loop-record.rest.now c.in_default.ensures)

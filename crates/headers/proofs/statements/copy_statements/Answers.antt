@@ -23,9 +23,9 @@ pub loop-record-preserved : goal.loop-record-preserved
 loop-record-preserved c =
     let f = c.in-Some.ensures in
     let i = c.loop-record.invariant in
-    (i.0 ∙ given_none c.loop-record.rest.now c.in-Some.after.now c.in-Some.record f.0 f.2 f.3 c.in-default-statement.ensures, i.1, i.2, i.3)
+    (i.0 ∙ given_none c.loop-record.rest.now c.in-Some.after.now c.in-Some.record f.0 f.2 f.3 c.in_default-statement.ensures, i.1, i.2, i.3)
 
 pub returns : goal.returns
 returns c =
     let i = c.loop-record.invariant in
-    ended c.loop-record.rest.now (statements_in c.args.part.now) c.args.memory.now c.loop-record.memory c.loop-record.count c.in-default.ensures i.0 i.1 i.2 i.3
+    ended c.loop-record.rest.now (statements_in c.args.part.now) c.args.memory.now c.loop-record.memory c.loop-record.count c.in_default.ensures i.0 i.1 i.2 i.3

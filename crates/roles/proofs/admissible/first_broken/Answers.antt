@@ -4,8 +4,8 @@ use Rattle.rules.specs.Places.{at_place}
 use Rattle.roles.proofs.Judging.{broken_first, kept_more}
 use Rattle.roles.proofs.admissible.first_broken.Goals as goal
 
-pub keeps-requires-in-loop-place : goal.keeps-requires-in-loop-place
-keeps-requires-in-loop-place g c =
+pub keeps-requires : goal.keeps-requires
+keeps-requires g c =
     record { judged = c.requires; formed = all_formed _ _ _ _ c.args.base.now.formed _ _ (at_place _ _ c.loop-place-test.true) }
 
 pub returns-then-not-keeps : goal.returns-then-not-keeps

@@ -10,4 +10,4 @@ returns-then-has-2 g c = right_breaks _ _ _ (g.S.MarkStore.held c.args.marks.now
 pub returns : goal.returns
 returns g c =
     both_told _ _ _ (g.S.MarkStore.held c.args.marks.now) c.requires.judged _ _ c.requires.low.0 c.requires.low.1 _ _ _
-    c.has.ensures c.if-has.false c.has-2.ensures c.if-has-2.false c.ranges-within.ensures
+    c.has.ensures c.if-has.false c.has-2.ensures c.if-has-2.false c.ranges_within.ensures

@@ -5,7 +5,7 @@ use Rattle.ruletext.proofs.Judged.{told_long, told_refused, told_read}
 use Rattle.ruletext.proofs.verdict.judge.Goals as goal
 
 pub returns-then-input-gt16384 : goal.returns-then-input-gt16384
-returns-then-input-gt16384 c = told_long c.args.input.now (omega arith) c.refused-at.result c.refused-at.ensures (contents c.clear.new.self) c.clear.ensures
+returns-then-input-gt16384 c = told_long c.args.input.now (omega arith) c.refused_at.result c.refused_at.ensures (contents c.clear.new.self) c.clear.ensures
 
 pub returns-in-Err : goal.returns-in-Err
 returns-in-Err c =

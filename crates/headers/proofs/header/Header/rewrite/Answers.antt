@@ -11,8 +11,8 @@ returns c =
     let p = c.args.self.now.parts in
     let ss = c.args.statements.now in
     record {
-      bytes = c.write-parts.ensures;
-      encoding = λ named. written_as c.write-parts.result c.args.out.now c.write-parts.new.out (file_of p.individuals.now p.classes.now p.roles.now (joined record_bytes ss)) (encode (renamed p.individuals.now p.classes.now p.roles.now ss))
-          (renamed_is p.individuals.now p.classes.now p.roles.now ss named) c.write-parts.ensures;
+      bytes = c.write_parts.ensures;
+      encoding = λ named. written_as c.write_parts.result c.args.out.now c.write_parts.new.out (file_of p.individuals.now p.classes.now p.roles.now (joined record_bytes ss)) (encode (renamed p.individuals.now p.classes.now p.roles.now ss))
+          (renamed_is p.individuals.now p.classes.now p.roles.now ss named) c.write_parts.ensures;
       back = read_back;
     }

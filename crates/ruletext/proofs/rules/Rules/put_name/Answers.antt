@@ -4,35 +4,35 @@ use Rattle.ruletext.proofs.Lined.{long}
 use Rattle.ruletext.proofs.Puts.{one_more, put_individual, put_class, put_role, room_individual, room_class, room_role}
 use Rattle.ruletext.proofs.rules.Rules.put_name.Goals as goal
 
-pub push-reserved-requires : goal.push-reserved-requires
-push-reserved-requires c = omega (arith, room_individual (contents c.args.self.now) c.args.kind _ c.in-Individual.is c.requires (long (vec_items c.args.self.now.individuals) _ (vec_len c.args.self.now.individuals) refl c.args.self.now.individuals.ok.0))
+pub push_reserved-requires : goal.push_reserved-requires
+push_reserved-requires c = omega (arith, room_individual (contents c.args.self.now) c.args.kind _ c.in-Individual.is c.requires (long (vec_items c.args.self.now.individuals) _ (vec_len c.args.self.now.individuals) refl c.args.self.now.individuals.ok.0))
 
-pub invariant-of-self : goal.invariant-of-self
-invariant-of-self c =
+pub invariant_of-self : goal.invariant_of-self
+invariant_of-self c =
     let room = room_individual (contents c.args.self.now) c.args.kind _ c.in-Individual.is c.requires (long (vec_items c.args.self.now.individuals) _ (vec_len c.args.self.now.individuals) refl c.args.self.now.individuals.ok.0) in
     (omega arith, (omega arith, (omega arith, (omega arith, (omega arith, (omega arith, (omega arith, (omega arith, (omega arith, (omega arith, tt))))))))))
 
 pub returns-in-Individual : goal.returns-in-Individual
-returns-in-Individual c = put_individual (contents c.args.self.now) _ c.args.kind (spelt c.args.word) c.in-Individual.is (one_more (vec_items c.push-reserved.new.self) (vec_items c.args.self.now.individuals) c.args.word c.push-reserved.ensures.items)
+returns-in-Individual c = put_individual (contents c.args.self.now) _ c.args.kind (spelt c.args.word) c.in-Individual.is (one_more (vec_items c.push_reserved.new.self) (vec_items c.args.self.now.individuals) c.args.word c.push_reserved.ensures.items)
 
-pub push-reserved-requires-in-Class : goal.push-reserved-requires-in-Class
-push-reserved-requires-in-Class c = omega (arith, room_class (contents c.args.self.now) c.args.kind _ c.in-Class.is c.requires (long (vec_items c.args.self.now.classes) _ (vec_len c.args.self.now.classes) refl c.args.self.now.classes.ok.0))
+pub push_reserved-requires-in-Class : goal.push_reserved-requires-in-Class
+push_reserved-requires-in-Class c = omega (arith, room_class (contents c.args.self.now) c.args.kind _ c.in-Class.is c.requires (long (vec_items c.args.self.now.classes) _ (vec_len c.args.self.now.classes) refl c.args.self.now.classes.ok.0))
 
-pub invariant-of-self-in-Class : goal.invariant-of-self-in-Class
-invariant-of-self-in-Class c =
+pub invariant_of-self-in-Class : goal.invariant_of-self-in-Class
+invariant_of-self-in-Class c =
     let room = room_class (contents c.args.self.now) c.args.kind _ c.in-Class.is c.requires (long (vec_items c.args.self.now.classes) _ (vec_len c.args.self.now.classes) refl c.args.self.now.classes.ok.0) in
     (omega arith, (omega arith, (omega arith, (omega arith, (omega arith, (omega arith, (omega arith, (omega arith, (omega arith, (omega arith, tt))))))))))
 
 pub returns-in-Class : goal.returns-in-Class
-returns-in-Class c = put_class (contents c.args.self.now) _ c.args.kind (spelt c.args.word) c.in-Class.is (one_more (vec_items c.push-reserved-in-Class.new.self) (vec_items c.args.self.now.classes) c.args.word c.push-reserved-in-Class.ensures.items)
+returns-in-Class c = put_class (contents c.args.self.now) _ c.args.kind (spelt c.args.word) c.in-Class.is (one_more (vec_items c.push_reserved-in-Class.new.self) (vec_items c.args.self.now.classes) c.args.word c.push_reserved-in-Class.ensures.items)
 
-pub push-reserved-requires-in-Role : goal.push-reserved-requires-in-Role
-push-reserved-requires-in-Role c = omega (arith, room_role (contents c.args.self.now) c.args.kind _ c.in-Role.is c.requires (long (vec_items c.args.self.now.roles) _ (vec_len c.args.self.now.roles) refl c.args.self.now.roles.ok.0))
+pub push_reserved-requires-in-Role : goal.push_reserved-requires-in-Role
+push_reserved-requires-in-Role c = omega (arith, room_role (contents c.args.self.now) c.args.kind _ c.in-Role.is c.requires (long (vec_items c.args.self.now.roles) _ (vec_len c.args.self.now.roles) refl c.args.self.now.roles.ok.0))
 
-pub invariant-of-self-in-Role : goal.invariant-of-self-in-Role
-invariant-of-self-in-Role c =
+pub invariant_of-self-in-Role : goal.invariant_of-self-in-Role
+invariant_of-self-in-Role c =
     let room = room_role (contents c.args.self.now) c.args.kind _ c.in-Role.is c.requires (long (vec_items c.args.self.now.roles) _ (vec_len c.args.self.now.roles) refl c.args.self.now.roles.ok.0) in
     (omega arith, (omega arith, (omega arith, (omega arith, (omega arith, (omega arith, (omega arith, (omega arith, (omega arith, (omega arith, tt))))))))))
 
 pub returns-in-Role : goal.returns-in-Role
-returns-in-Role c = put_role (contents c.args.self.now) _ c.args.kind (spelt c.args.word) c.in-Role.is (one_more (vec_items c.push-reserved-in-Role.new.self) (vec_items c.args.self.now.roles) c.args.word c.push-reserved-in-Role.ensures.items)
+returns-in-Role c = put_role (contents c.args.self.now) _ c.args.kind (spelt c.args.word) c.in-Role.is (one_more (vec_items c.push_reserved-in-Role.new.self) (vec_items c.args.self.now.roles) c.args.word c.push_reserved-in-Role.ensures.items)

@@ -13,13 +13,13 @@ loop-reader-init c = let e = c.new-reader.ensures in r_start _ c.requires c.args
 pub loop-reader-preserved : goal.loop-reader-preserved
 loop-reader-preserved c =
     let q = c.loop-reader-test.ensures in
-    r_more (by_lines 1 nothing (lines c.args.text.now)) c.loop-reader.reader.line (contents c.loop-reader.self) (lines_left c.loop-reader.reader) c.loop-reader.invariant _ q.line _ _ q.taken _ c.in-ok-read-line.ensures
+    r_more (by_lines 1 nothing (lines c.args.text.now)) c.loop-reader.reader.line (contents c.loop-reader.self) (lines_left c.loop-reader.reader) c.loop-reader.invariant _ q.line _ _ q.taken _ c.in_ok-read_line.ensures
 
-pub returns-in-err-read-line : goal.returns-in-err-read-line
-returns-in-err-read-line c =
+pub returns-in_err-read_line : goal.returns-in_err-read_line
+returns-in_err-read_line c =
     let q = c.loop-reader-test.ensures in
-    let p = err_from_is_err_and c.from-residual.result c.from-residual.ensures.1 in
-    rw (p.1, p.2) (r_refused (by_lines 1 nothing (lines c.args.text.now)) c.loop-reader.reader.line (contents c.loop-reader.self) (lines_left c.loop-reader.reader) c.loop-reader.invariant _ q.line _ _ q.taken c.in-err-read-line.field-0.0 c.in-err-read-line.ensures)
+    let p = err_from_is_err_and c.from_residual.result c.from_residual.ensures.1 in
+    rw (p.1, p.2) (r_refused (by_lines 1 nothing (lines c.args.text.now)) c.loop-reader.reader.line (contents c.loop-reader.self) (lines_left c.loop-reader.reader) c.loop-reader.invariant _ q.line _ _ q.taken c.in_err-read_line.field-0.0 c.in_err-read_line.ensures)
 
 pub returns : goal.returns
 returns c =

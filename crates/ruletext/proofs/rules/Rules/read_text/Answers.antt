@@ -7,15 +7,15 @@ use Rattle.ruletext.proofs.rules.Rules.read_text.Goals as goal
 
 pub admit-requires : goal.admit-requires
 admit-requires c =
-    let q = c.in-ok-counts.ensures in
-    (q.1, fit_counted c.in-ok-counts.counts _ q.1 (text_fits c.args.text.now _ q.0))
+    let q = c.in_ok-counts.ensures in
+    (q.1, fit_counted c.in_ok-counts.counts _ q.1 (text_fits c.args.text.now _ q.0))
 
-pub returns-in-err-counts : goal.returns-in-err-counts
-returns-in-err-counts c =
-    let p = err_from_is_err_and c.from-residual.result c.from-residual.ensures.1 in
-    rw (p.1, p.2) (inl c.in-err-counts.ensures)
+pub returns-in_err-counts : goal.returns-in_err-counts
+returns-in_err-counts c =
+    let p = err_from_is_err_and c.from_residual.result c.from_residual.ensures.1 in
+    rw (p.1, p.2) (inl c.in_err-counts.ensures)
 
 pub returns : goal.returns
 returns c =
-    let q = c.in-ok-counts.ensures in
+    let q = c.in_ok-counts.ensures in
     MatchResult-weaker c.admit.result c.admit.ensures (λ x a. (q.0, a)) (λ e b. inr (record { contents = _; read = q.0; breaks = b }))
