@@ -36,5 +36,5 @@ returns c =
     record {
       size = closed_size c.loop-i.file.out.now c.loop-i.file.at c.loop-i.file.header c.close.result s c.close.ensures.size ∙ omega (arith, i.2, n);
       bytes = closed o b c.loop-i.file.out.now _ h es (c.loop-i.file.at - (16 + c.loop-i.file.header)) (fits_parts o (16 + length h + 14 * length es) c.requires).0 eb f (omega (arith, i.1, i.2, n))
-          (c.out·1.given.1.1 (sym (i.0 ∙ c.begin-file.ensures.lent)) ∙ (closed_bytes c.loop-i.file.out.now _ c.loop-i.file.at c.loop-i.file.header s c.close.ensures.bytes ∙ ap (λ k. laid c.loop-i.file.out.now 0 (two_pairs k (c.loop-i.file.at - (16 + c.loop-i.file.header)))) i.1));
+          (c.out-1.given.1.1 (sym (i.0 ∙ c.begin-file.ensures.lent)) ∙ (closed_bytes c.loop-i.file.out.now _ c.loop-i.file.at c.loop-i.file.header s c.close.ensures.bytes ∙ ap (λ k. laid c.loop-i.file.out.now 0 (two_pairs k (c.loop-i.file.at - (16 + c.loop-i.file.header)))) i.1));
     }
