@@ -11,10 +11,10 @@ returns-in-Ok c =
     let r = long (vec_items rules.roles) c.len-3.result (vec_len rules.roles) c.len-3.ensures rules.roles.ok.0 in
     let q = c.in-Ok.ensures in
     let new = c.new.ensures in
-    from_counts _ _ _ (vec_items rules.statements) c.as-slice-statements.result.now c.as-slice-statements.ensures.value c.len.result c.len-2.result c.len-3.result i k r
+    from_counts _ _ _ (vec_items rules.statements) c.as_slice-statements.result.now c.as_slice-statements.ensures.value c.len.result c.len-2.result c.len-3.result i k r
     q.0 c.in-Ok.counts.individuals c.in-Ok.counts.classes c.in-Ok.counts.roles c.in-Ok.counts.statements q.1 q.2 q.3 q.4
     c.new.result.counts.individuals c.new.result.counts.classes c.new.result.counts.roles c.new.result.statements.now new.individuals new.classes new.roles new.statements
-    c.args.slots.now c.count-facts.new.slots c.count-facts.result c.count-facts.ensures
+    c.args.slots.now c.count_facts.new.slots c.count_facts.result c.count_facts.ensures
 
 pub returns-in-Err : goal.returns-in-Err
 returns-in-Err c =
@@ -22,4 +22,4 @@ returns-in-Err c =
     let i = long (vec_items rules.individuals) c.len.result (vec_len rules.individuals) c.len.ensures rules.individuals.ok.0 in
     let k = long (vec_items rules.classes) c.len-2.result (vec_len rules.classes) c.len-2.ensures rules.classes.ok.0 in
     let r = long (vec_items rules.roles) c.len-3.result (vec_len rules.roles) c.len-3.ensures rules.roles.ok.0 in
-    absurd (not_refused _ _ _ (vec_items rules.statements) c.as-slice-statements.result.now c.as-slice-statements.ensures.value c.len.result c.len-2.result c.len-3.result i k r c.requires c.in-Err.field-0 c.in-Err.ensures)
+    absurd (not_refused _ _ _ (vec_items rules.statements) c.as_slice-statements.result.now c.as_slice-statements.ensures.value c.len.result c.len-2.result c.len-3.result i k r c.requires c.in-Err.field-0 c.in-Err.ensures)

@@ -3,8 +3,8 @@ use Rattle.ruletext.specs.Reading.{contents}
 use Rattle.survey.proofs.Told.{told_refused, told_read}
 use Rattle.survey.proofs.report.tell.Goals as goal
 
-pub facts-of-requires : goal.facts-of-requires
-facts-of-requires c = (told_read c.args.input.now _ _ _ _ (contents c.judge.new.rules) c.in-Read.ensures).fitting
+pub facts_of-requires : goal.facts_of-requires
+facts_of-requires c = (told_read c.args.input.now _ _ _ _ (contents c.judge.new.rules) c.in-Read.ensures).fitting
 
 pub returns-in-Refused : goal.returns-in-Refused
 returns-in-Refused c =
