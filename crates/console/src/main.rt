@@ -3,7 +3,7 @@
 
 ghost use Rattle.std.specs.Prelude.{◌≤◌, length, IfOk};
 
-use ruletext::rules::Rules;
+use ruletext::text_rules::Rules;
 use slottable::Slot;
 use std::io;
 use std::io::Read;

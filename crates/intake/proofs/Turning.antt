@@ -18,7 +18,7 @@ use Rattle.headers.specs.Names.{is_in, distinct}
 use Rattle.headers.specs.Header.{Header}
 use Rattle.headers.specs.Spelt.{spelling, listing}
 use Rattle.headers.specs.Theorems.{Naming, Proper}
-use Rattle.ruletext.specs.declared.rules.Rules.{Rules}
+use Rattle.ruletext.specs.declared.text_rules.Rules.{Rules}
 use Rattle.ruletext.specs.Outcome.{Name, Contents, by_text}
 use Rattle.ruletext.specs.Laws.{DeclaredIn, Apart}
 use Rattle.ruletext.specs.Means.{Means}

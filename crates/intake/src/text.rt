@@ -6,7 +6,7 @@ ghost use Rattle.intake.specs.Texts.{Turned, NotTurned, TextAccepted};
 
 use headers::encode::write_header;
 use rules::refusals::Refusal;
-use ruletext::rules::Rules;
+use ruletext::text_rules::Rules;
 
 /// Turns a rule text without questions into its header, and answers the header's length; the output past it stays. What was
 /// read goes into `rules`, in place of what was read before. A refusal has the line and word, and leaves the output as it was.

@@ -7,7 +7,7 @@ ghost use Rattle.rules.specs.declared.statements.Statement.TheVariants.{RoleBoth
 ghost use Rattle.roles.specs.Roles.{Keeps, RangesWithin, Admissible, FirstBreaking};
 ghost use Rattle.roles.specs.RoleNumbers.{numbers, Judged};
 
-use crate::rules::{RoleRules, range_number};
+use crate::role_rules::{RoleRules, range_number};
 use marks::mark::mark;
 use marks::rules::RuleSet;
 use marks::store::MarkStore;

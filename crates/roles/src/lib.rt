@@ -6,4 +6,4 @@
 
 pub mod admissible;
 pub mod facts;
-pub mod rules;
+pub mod role_rules;

@@ -2,7 +2,7 @@
 use Rattle.std.specs.Prelude.{◌≡◌, map, length, vec_items}
 use Rattle.rules.specs.declared.counts.Counts.{Counts}
 use Rattle.reader.specs.declared.reader.Word.{Word}
-use Rattle.ruletext.specs.declared.rules.Rules.{Rules}
+use Rattle.ruletext.specs.declared.text_rules.Rules.{Rules}
 use Rattle.ruletext.specs.Outcome.{Name, Contents}
 
 -- A word as a name with its place.

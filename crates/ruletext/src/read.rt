@@ -13,7 +13,7 @@ ghost use Rattle.ruletext.specs.Reading.{spelt, contents, Counted};
 ghost use Rattle.rules.specs.Limits.{most};
 
 use crate::letters::{kind_of, letter_of, refused_at, used};
-use crate::rules::Rules;
+use crate::text_rules::Rules;
 use crate::words::{check_names, last_word};
 use reader::letters::is_proper;
 use reader::reader::{Reader, Word};

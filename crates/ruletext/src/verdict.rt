@@ -4,7 +4,7 @@ ghost use Rattle.ruletext.specs.Reading.{contents};
 ghost use Rattle.ruletext.specs.Verdicts.{verdict_text, Told};
 
 use crate::letters::refused_at;
-use crate::rules::Rules;
+use crate::text_rules::Rules;
 use rules::refusals::{Reason, Refusal};
 use std::fmt;
 

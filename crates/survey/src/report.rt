@@ -8,7 +8,7 @@ ghost use Rattle.survey.specs.Surveys.{Surveyed, Fitting, survey_text};
 use crate::count::count_facts;
 use rules::base::RuleBase;
 use rules::refusals::Refusal;
-use ruletext::rules::Rules;
+use ruletext::text_rules::Rules;
 use ruletext::verdict::{Verdict, judge};
 use slottable::Slot;
 use std::fmt;

@@ -27,7 +27,7 @@ returns c =
     let h = c.in-ok-header.header in let t = h.tally in
     record {
       exact = viewed c.args.bytes.now h.parts.individuals.now h.parts.classes.now h.parts.roles.now h.parts.statements.now t.individuals t.classes t.roles t.statements
-          c.in-ok-header.ensures c.in-ok--counts.-counts c.in-ok--counts.ensures (λ k. omega (arith, c.type-inv.bytes k));
+          c.in-ok-header.ensures c.in-ok--counts._counts c.in-ok--counts.ensures (λ k. omega (arith, c.type-inv.bytes k));
       one = one_header c.args.bytes.now;
       back = accepted_back;
       only = only_accepted;
