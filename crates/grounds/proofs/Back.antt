@@ -1,7 +1,7 @@
 -- From the fact and the ground of a line back to its given, one line for each line of the table.
 use mathlib.Core.Path.{◌≡◌, refl, ap, ◌∙◌}
 use mathlib.Core.Bool.{cond}
-use Prim.Native.Nat.{ℕ, ◌+◌, ◌-◌, ◌<◌, ◌≤◌}
+use Prim.Native.Nat.{ℕ, ◌+◌, ◌-◌, ◌≤◌}
 use native.Mathlib.Omega.{arith}
 use native.Mathlib.Decide.{dec_lt}
 use borrow.Author.Tests.{lt-ltb, le-ltb}
@@ -14,7 +14,7 @@ use Rattle.calculus.specs.declared.terms.First.TheVariants as first
 use Rattle.calculus.specs.declared.terms.Second.{Second}
 use Rattle.calculus.specs.declared.terms.Second.TheVariants as second
 use Rattle.calculus.specs.declared.terms.Fact.{Fact}
-use Rattle.calculus.specs.declared.terms.Fact.TheVariants.{Instance, SelfPair, Pair}
+use Rattle.calculus.specs.declared.terms.Fact.TheVariants.{Instance, Pair}
 use Rattle.linetable.specs.Table.{key, lines, fill, finish, witness, Among, only, two_1, two_2, four_1, four_2, four_3, four_4, Fits, anyone, member, own, pair}
 use Rattle.linetable.specs.declared.shapes.Key.{Key}
 use Rattle.linetable.specs.declared.shapes.Line.{Line}

@@ -1,5 +1,5 @@
 -- What the lines of a statement say of a ground.
-use mathlib.Core.Path.{◌≡◌, refl, sym, subst, ap, ◌∙◌}
+use mathlib.Core.Path.{◌≡◌, sym, subst, ap, ◌∙◌}
 use mathlib.Core.Bool.{Bool, true, false, ◌||◌}
 use mathlib.Core.Logic.{◌⊎◌, inl, inr, ⊎_elim}
 use Prim.Native.Nat.{ℕ}
@@ -9,7 +9,7 @@ use Rattle.calculus.specs.Numbers.{Inside}
 use Rattle.calculus.specs.declared.terms.First.{First}
 use Rattle.calculus.specs.declared.terms.Ground.{Ground}
 use Rattle.calculus.specs.declared.terms.Fact.{Fact}
-use Rattle.linetable.specs.Table.{Among, only, two_1, two_2, four_1, four_2, four_3, four_4, Fits, fill, finish, ground_at, touches, suits}
+use Rattle.linetable.specs.Table.{Among, only, two_1, two_2, four_1, four_2, four_3, four_4, Fits, fill, finish, ground_at}
 use Rattle.linetable.specs.declared.shapes.Key.{Key}
 use Rattle.linetable.specs.declared.shapes.Line.{Line}
 use Rattle.linetable.specs.declared.shapes.Said.{Said}

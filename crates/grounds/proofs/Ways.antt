@@ -1,11 +1,10 @@
 -- A ground gives a fact exactly if the definitions of the check say so.
 use mathlib.Core.Path.{◌≡◌, refl, sym, subst, ap, ap₂, ◌∙◌}
-use mathlib.Core.Bool.{Bool, true, false}
+use mathlib.Core.Bool.{Bool, false}
 use mathlib.Core.List.{List, []}
-use mathlib.Core.Logic.{◌⊎◌, inl, inr, ⊎_elim}
-use Prim.Native.Nat.{ℕ, ◌+◌, ◌<◌, ◌≤◌}
+use mathlib.Core.Logic.{inl, inr, ⊎_elim}
+use Prim.Native.Nat.{ℕ, ◌+◌, ◌≤◌}
 use native.Mathlib.Omega.{arith}
-use lib.Dec.{T}
 use lib.ListN.{length}
 use Rattle.rules.specs.Limits.{most_statements}
 use Rattle.rules.specs.Places.{At, at_one}
@@ -14,13 +13,12 @@ use Rattle.rules.specs.declared.statements.Statement.{Statement}
 use Rattle.rules.specs.declared.statements.Statement.TheVariants.{Member, Related, Empty, Universal, Only, Nominal, Subclass, Both, Reaches, Requires, SelfWithin, SelfPaired, Subrole, Chain, RoleBoth, Product, DomainRange}
 use Rattle.calculus.specs.Trees.{All, all_more}
 use Rattle.calculus.specs.Tests.{Decides}
-use Rattle.calculus.specs.Terms.{first_number, second_number, ground_of, by_rule}
-use Rattle.calculus.specs.Steps.{Step, Gives, rule_1, rule_2, rule_4, rule_27, rule_28, rule_29}
-use Rattle.calculus.specs.Numbers.{FirstInside, SecondInside, Inside}
+use Rattle.calculus.specs.Terms.{first_number, ground_of, by_rule}
+use Rattle.calculus.specs.Steps.{rule_1, rule_2, rule_4, rule_27, rule_28, rule_29}
+use Rattle.calculus.specs.Numbers.{FirstInside, Inside}
 use Rattle.calculus.proofs.Contained.{step_inside}
 use Rattle.calculus.specs.declared.terms.First.{First}
 use Rattle.calculus.specs.declared.terms.First.TheVariants as first
-use Rattle.calculus.specs.declared.terms.Second.{Second}
 use Rattle.calculus.specs.declared.terms.Second.TheVariants as second
 use Rattle.calculus.specs.declared.terms.Ground.{Ground}
 use Rattle.calculus.specs.declared.terms.Fact.{Fact}

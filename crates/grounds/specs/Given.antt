@@ -1,7 +1,7 @@
 -- A ground by the table of lines. From a fact and the witness u of a ground one finds the given that a line would have gone
 -- from; then the line gives the fact by that ground if the given fits, it and the second fact are held, and the line's
 -- conclusion and ground are the fact and the ground in question.
-use Rattle.std.specs.Prelude.{◌≡◌, Bool, true, false, cond, List, ℕ, ◌+◌, ◌-◌, ◌<◌, ltb}
+use Rattle.std.specs.Prelude.{◌≡◌, Bool, true, false, cond, List, ℕ, ◌-◌, ltb}
 use Rattle.rules.specs.declared.statements.Statement.{Statement}
 use Rattle.calculus.specs.Steps.{Gives}
 use Rattle.calculus.specs.Numbers.{fact_number, Inside}

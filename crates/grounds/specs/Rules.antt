@@ -1,7 +1,6 @@
 -- The grounds that are no lines, one definition for each rule: what must be so for the rule to give the fact f by the ground
 -- w from held facts. Rules 1, 2, 27, 28 and 29 have no statement; rule 4 has a statement of form c.
-use Rattle.std.specs.Prelude.{◌≡◌, Bool, List, ◌⊎◌, ℕ, ◌+◌, ◌<◌}
-use Rattle.rules.specs.Places.{At}
+use Rattle.std.specs.Prelude.{◌≡◌, Bool, ◌⊎◌, ℕ, ◌+◌, ◌<◌}
 use Rattle.rules.specs.declared.statements.Statement.{Statement}
 use Rattle.rules.specs.declared.statements.Statement.TheVariants.{Member, Related, Empty, Universal, Only, Nominal, Subclass, Both, Reaches, Requires, SelfWithin, SelfPaired, Subrole, Chain, RoleBoth, Product, DomainRange}
 use Rattle.calculus.specs.Terms.{ground_of, by_rule}

@@ -1,19 +1,18 @@
 -- encode (decode b) is b
-use Rattle.std.proofs.Common.{◌≡◌, ℕ, zero, suc, ◌+◌, ◌-◌, ◌*◌, ◌/◌, ◌%◌, ◌<◌, ◌≤◌, Bool, true, false, cond, not, ◌&&◌, ◌||◌, eqb, leb, ◌⊎◌, List, [], ◌∷◌, ◌++◌, map, length, get_or, take, drop, Some, None, Ok, Err, Option, Result, sym, refl, ap, ◌∙◌, subst, inl, inr, append_assoc, add-one, arith, lit<, length-append, length-drop, take-append-drop, length-take}
+use Rattle.std.proofs.Common.{◌≡◌, ℕ, zero, suc, ◌+◌, ◌*◌, ◌/◌, ◌%◌, ◌<◌, ◌≤◌, true, false, cond, not, ◌&&◌, eqb, List, [], ◌∷◌, ◌++◌, map, length, take, drop, Some, None, Ok, Option, Result, sym, refl, ap, ◌∙◌, subst, inl, inr, append_assoc, arith, lit<, length-drop, take-append-drop, length-take}
 use Rattle.std.proofs.lemmas.List.{drop_more, get_or-drop, get_or-take, drop-drop, take_all, get_or_past}
-use Rattle.std.proofs.lemmas.Bool.{and_parts, and_from, eqb-true, cond-true, cond-false, cases_Bool, cases_lt, true≢false}
-use Rattle.rules.specs.Fits.{statements_refusal, base_refusal}
+use Rattle.std.proofs.lemmas.Bool.{and_parts, eqb-true, cond-true, cond-false, cases_Bool, cases_lt, true≢false}
 use Rattle.rules.specs.Formed.{unrefused_fit, accepted_unrefused}
 use Rattle.rules.specs.Limits.{within_limits}
 use Rattle.rules.specs.Refusals.{refusal}
-use Rattle.rules.specs.declared.refusals.Reason.TheVariants.{WrongDirectory, WrongContent, CountOutOfLimits}
+use Rattle.rules.specs.declared.refusals.Reason.TheVariants.{WrongContent, CountOutOfLimits}
 use Rattle.rules.specs.declared.refusals.Refusal.{Refusal}
 use Rattle.rules.specs.declared.statements.Statement.{Statement}
 use Rattle.headers.specs.declared.record.Record.{Record}
-use Rattle.headers.specs.Bytes.{at, wide, long, two, four, slice, pieces, cut, even, all, joined}
+use Rattle.headers.specs.Bytes.{at, long, two, four, slice, pieces, cut, even, all, joined}
 use Rattle.headers.specs.Names.{is_name, distinct, lines, line, ended, on_first, are_names}
-use Rattle.headers.specs.Records.{known_letter, is_record, record_in, record_bytes, stated_by, records_refusal}
-use Rattle.headers.specs.Header.{Header, offset, size, end, part, directory_refusal, are_records, records_in, statements_in, wrong_content, content_refusal, judgement, holding, refuse, judged, of_parts, decode, pair, directory, file_of, encode, renamed, Named}
+use Rattle.headers.specs.Records.{known_letter, is_record, record_in, record_bytes, records_refusal}
+use Rattle.headers.specs.Header.{Header, offset, size, part, directory_refusal, are_records, records_in, statements_in, wrong_content, content_refusal, judgement, holding, refuse, judged, of_parts, pair, directory, file_of, encode, renamed, Named}
 use Rattle.headers.specs.Theorems.{Bytes, Naming, Proper, OneFile, OnlyOne, AcceptedProper}
 use Rattle.headers.proofs.Rights.{Right, right_from, guard}
 use Rattle.headers.proofs.Lines.{unended}

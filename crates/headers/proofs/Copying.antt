@@ -1,5 +1,5 @@
 -- Statements copied one by one.
-use Rattle.std.proofs.Common.{◌≡◌, ℕ, zero, suc, ◌+◌, ◌-◌, ◌<◌, ◌≤◌, List, [], ◌∷◌, ◌++◌, length, get_or, take, drop, set, Some, None, Option, sym, refl, ap, ◌∙◌, append_assoc, arith, length-drop, length-take}
+use Rattle.std.proofs.Common.{◌≡◌, ℕ, ◌+◌, ◌<◌, ◌≤◌, List, [], ◌∷◌, ◌++◌, length, get_or, take, drop, set, Some, None, sym, ap, ◌∙◌, append_assoc, arith, length-drop, length-take}
 use Rattle.std.proofs.lemmas.List.{take_more, drop_more, drop-drop, get_or-drop, set_at}
 use Rattle.rules.specs.declared.statements.Statement.{Statement}
 use Rattle.headers.specs.declared.record.Record.{Record}

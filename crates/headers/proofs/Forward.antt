@@ -1,26 +1,25 @@
 -- decode (encode h) is h
-use Rattle.std.proofs.Common.{◌≡◌, ℕ, zero, suc, ◌+◌, ◌-◌, ◌*◌, ◌/◌, ◌%◌, ◌<◌, ◌≤◌, Bool, true, false, cond, not, ◌&&◌, ◌||◌, eqb, ltb, leb, ◌⊎◌, List, [], ◌∷◌, ◌++◌, map, length, get_or, take, drop, Some, None, Ok, Err, Option, Result, sym, refl, ap, ◌∙◌, inl, inr, append_assoc, arith, lit<, length-append, length-drop, length-take}
+use Rattle.std.proofs.Common.{◌≡◌, ℕ, ◌+◌, ◌*◌, ◌/◌, ◌%◌, ◌<◌, ◌≤◌, Bool, true, false, cond, ◌&&◌, eqb, leb, List, [], ◌∷◌, ◌++◌, map, length, take, drop, Some, None, Ok, Option, sym, refl, ap, ◌∙◌, inl, inr, append_assoc, arith, length-append}
 use lib.ListN.{length-map}
-use Rattle.std.proofs.lemmas.List.{drop-drop, take_all, take_at, drop_at, append-nil}
+use Rattle.std.proofs.lemmas.List.{take_at, drop_at, append-nil}
 use Rattle.std.proofs.lemmas.Bool.{and_parts, and_from, eqb-true, eq-eqb, leb-true, le-leb, cases_Bool, true≢false}
 use Rattle.rules.specs.Forms.{fields_of_form}
-use Rattle.rules.specs.Fits.{FieldFits, FormFits, fits, all_fit, statements_refusal, base_refusal}
+use Rattle.rules.specs.Fits.{FieldFits, FormFits, fits, all_fit}
 use Rattle.rules.specs.Formed.{Accepted, fits_formed, fit_unrefused, unrefused_accepted}
-use Rattle.rules.specs.Limits.{within_limits, most, most_statements}
+use Rattle.rules.specs.Limits.{within_limits}
 use Rattle.rules.specs.Refusals.{refusal}
 use Rattle.rules.specs.Statements.{letter_of, fields_of, three}
 use Rattle.rules.specs.declared.forms.Kind.{Kind}
 use Rattle.rules.specs.declared.forms.Kind.TheVariants as kind
 use Rattle.rules.specs.declared.forms.FieldKinds.{FieldKinds}
 use Rattle.rules.specs.declared.refusals.Reason.TheVariants.{WrongDirectory, WrongContent, CountOutOfLimits}
-use Rattle.rules.specs.declared.refusals.Refusal.{Refusal}
 use Rattle.rules.specs.declared.statements.Fields.{Fields}
 use Rattle.rules.specs.declared.statements.Statement.{Statement}
 use Rattle.headers.specs.declared.record.Record.{Record}
-use Rattle.headers.specs.Bytes.{at, wide, long, two, four, slice, pieces, cut, even, all, joined}
-use Rattle.headers.specs.Names.{name_byte, is_name, distinct, lines, line, ended, on_first, are_names}
-use Rattle.headers.specs.Records.{known_letter, is_record, record_in, record_bytes, stated_by, records_refusal}
-use Rattle.headers.specs.Header.{Header, offset, size, end, part, starts, directory_refusal, are_records, records_in, statements_in, content_refusal, judgement, holding, refuse, judged, of_parts, decode, pair, directory, file_of, encode}
+use Rattle.headers.specs.Bytes.{slice, pieces, cut, even, all, joined}
+use Rattle.headers.specs.Names.{name_byte, is_name, distinct, lines, line, ended, are_names}
+use Rattle.headers.specs.Records.{known_letter, is_record, record_in, record_bytes, records_refusal}
+use Rattle.headers.specs.Header.{Header, offset, size, end, part, starts, directory_refusal, are_records, records_in, judgement, holding, refuse, judged, of_parts, decode, directory, file_of}
 use Rattle.headers.specs.Theorems.{Naming, Proper, ReadBack}
 use Rattle.headers.proofs.Tests.{four_pass}
 use Rattle.headers.proofs.Rights.{Right}

@@ -1,5 +1,5 @@
 -- The contents of four parts, and what follows from them.
-use Rattle.std.proofs.Common.{◌≡◌, ℕ, ◌/◌, Bool, true, false, cond, not, ◌&&◌, List, length, Some, None, Ok, Err, Option, Result, sym, refl, ap, ◌∙◌, arith}
+use Rattle.std.proofs.Common.{◌≡◌, ℕ, ◌/◌, Bool, true, false, cond, List, length, Some, None, Ok, Err, Option, Result, sym, ap, ◌∙◌, arith}
 use Rattle.rules.specs.Limits.{within_limits}
 use Rattle.rules.specs.Refusals.{refusal}
 use Rattle.rules.specs.declared.refusals.Reason.TheVariants.{WrongContent, CountOutOfLimits}
@@ -9,11 +9,10 @@ use Rattle.headers.specs.Names.{lines, are_names}
 use Rattle.headers.specs.Bytes.{cut, even, all}
 use Rattle.headers.specs.Records.{is_record, records_refusal}
 use Rattle.std.proofs.lemmas.Bool.{and_parts}
-use Rattle.headers.specs.Header.{Header, are_records, records_in, content_refusal, wrong_content, judgement, holding, refuse, judged, of_parts, decode, contents, part, directory_refusal, Named}
+use Rattle.headers.specs.Header.{Header, are_records, records_in, content_refusal, judgement, holding, refuse, judged, of_parts, decode, contents, part, directory_refusal}
 use Rattle.headers.specs.Theorems.{Bytes}
-use Rattle.headers.specs.Views.{Cut, Counted, Held, Opened, Reads}
+use Rattle.headers.specs.Views.{Cut, Held, Opened, Reads}
 use Rattle.headers.proofs.Pieces.{length_records}
-use Rattle.headers.proofs.Rights.{guard}
 use Rattle.headers.proofs.Backward.{one_file, accepted_proper, named_from}
 use Rattle.headers.proofs.Spelling.{known_length}
 use Rattle.headers.proofs.Tests.{four_pass}

@@ -1,12 +1,12 @@
-use Rattle.std.proofs.Common.{◌≡◌, ℕ, zero, suc, ◌+◌, ◌-◌, ◌*◌, ◌<◌, ◌≤◌, ltb, leb, List, [], ◌∷◌, ◌++◌, length, get_or, take, drop, Ok, Err, Result, sym, refl, ap, ◌∙◌, subst, append_assoc, arith, length-append, length-drop, take-append-drop, length-take, MatchResult}
-use Rattle.std.proofs.lemmas.List.{drop-drop, take_at, drop_at, take_more, append-nil, length-take-le}
+use Rattle.std.proofs.Common.{◌≡◌, ℕ, ◌+◌, ◌*◌, ◌<◌, ◌≤◌, ltb, leb, List, [], ◌∷◌, ◌++◌, length, get_or, take, drop, Ok, Err, Result, sym, refl, ap, ◌∙◌, subst, append_assoc, arith, length-append, length-drop, take-append-drop, length-take, MatchResult}
+use Rattle.std.proofs.lemmas.List.{drop-drop, take_at, drop_at, take_more, append-nil}
 use Rattle.rules.specs.declared.statements.Statement.{Statement}
 use Rattle.headers.specs.Bytes.{joined}
 use Rattle.headers.specs.Records.{record_bytes}
 use Rattle.std.proofs.lemmas.Bool.{and_from, and_left, and_right, le-leb, lt-leb, lt-ltb, le-ltb}
 use Rattle.rules.specs.declared.refusals.Refusal.{Refusal}
 use Rattle.headers.specs.Header.{directory, file_of}
-use Rattle.headers.specs.Output.{laid, fits, too_short, Wrote, Kept}
+use Rattle.headers.specs.Output.{laid, too_short, Wrote, Kept}
 
 pub laid_none : (o : List ℕ) (at : ℕ) → laid o at [] ≡ o
 laid_none o at = let e : at + 0 ≡ at = omega arith in ap (λ k. take at o ++ drop k o) e ∙ take-append-drop at o

@@ -6,9 +6,8 @@ use Rattle.headers.specs.Bytes.{joined}
 use Rattle.headers.specs.Names.{line}
 use Rattle.headers.specs.Records.{record_bytes}
 use Rattle.headers.specs.Header.{file_of, encode}
-use Rattle.headers.specs.Output.{laid}
 use Rattle.headers.specs.Spelt.{spelling, name_line, listing}
-use Rattle.headers.proofs.Laying.{next_size, prefix_length, joined_more}
+use Rattle.headers.proofs.Laying.{next_size, prefix_length}
 
 -- what stands past the end of a list of names
 abbrev pub no_name : Name

@@ -1,5 +1,5 @@
 -- Records, one by one.
-use Rattle.std.proofs.Common.{◌≡◌, ℕ, zero, suc, ◌+◌, ◌-◌, ◌/◌, ◌%◌, ◌<◌, ◌≤◌, Bool, true, false, cond, ◌&&◌, eqb, List, [], ◌∷◌, map, length, take, drop, Some, None, Option, sym, refl, ap, ◌∙◌, arith, length-drop}
+use Rattle.std.proofs.Common.{◌≡◌, ℕ, zero, suc, ◌+◌, ◌/◌, ◌%◌, ◌<◌, ◌≤◌, Bool, true, false, ◌&&◌, eqb, List, [], ◌∷◌, map, length, take, drop, Some, None, Option, sym, refl, ap, ◌∙◌, arith, length-drop}
 use lib.ListN.{length-map}
 use Rattle.std.proofs.lemmas.Bool.{and_right}
 use Rattle.rules.specs.Forms.{fields_of_form}
@@ -7,7 +7,6 @@ use Rattle.rules.specs.Fits.{refuse_field, wrong_field, wrong_by_form}
 use Rattle.rules.specs.declared.forms.FieldKinds.{FieldKinds}
 use Rattle.rules.specs.Refusals.{refusal}
 use Rattle.rules.specs.declared.refusals.Reason.TheVariants.{WrongField}
-use Rattle.rules.specs.declared.refusals.Refusal.{Refusal}
 use Rattle.headers.specs.declared.record.Record.{Record}
 use Rattle.headers.specs.Bytes.{at, pieces, cut, even, all}
 use Rattle.headers.specs.Records.{known_letter, is_record, record_in, records_refusal, wrong_in_record}

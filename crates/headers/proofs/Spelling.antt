@@ -1,10 +1,10 @@
 -- Records and statements: a record whose fields fit gives a statement that is spelt like it.
-use Rattle.std.proofs.Common.{◌≡◌, ℕ, zero, suc, ◌+◌, ◌<◌, ◌≤◌, Bool, true, false, cond, not, ◌&&◌, eqb, ◌⊎◌, List, [], ◌∷◌, ◌++◌, map, length, is_some, Some, None, Option, sym, refl, ap, ◌∙◌, subst, inl, inr, arith}
+use Rattle.std.proofs.Common.{◌≡◌, ℕ, suc, ◌+◌, ◌<◌, Bool, true, false, cond, eqb, List, [], ◌∷◌, ◌++◌, map, length, is_some, Some, None, Option, sym, refl, ap, ◌∙◌, subst, inl, inr, arith}
 use borrow.Author.Tests.{both_ways}
 use Rattle.std.proofs.lemmas.Bool.{and_parts, eqb-true, cond-true, cond-false, cases_Bool}
 use Rattle.rules.specs.Forms.{fields_of_form}
 use Rattle.rules.specs.Statements.{letter_of, fields_of, statement_of, three}
-use Rattle.rules.specs.Fits.{field_fits, first_false, FieldFits, FormFits, wrong_by_form, wrong_in, refuse_field, statements_refusal}
+use Rattle.rules.specs.Fits.{field_fits, first_false, FormFits, wrong_by_form, wrong_in, refuse_field, statements_refusal}
 use Rattle.rules.specs.Formed.{field_out}
 use Rattle.rules.specs.declared.forms.FieldKinds.{FieldKinds}
 use Rattle.rules.specs.declared.refusals.Refusal.{Refusal}

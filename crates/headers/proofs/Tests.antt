@@ -1,5 +1,5 @@
 -- Tests in a row.
-use Rattle.std.proofs.Common.{◌≡◌, ℕ, Bool, true, false, cond, not, Some, None, Option, refl, arith}
+use Rattle.std.proofs.Common.{◌≡◌, ℕ, Bool, true, false, cond, not, Some, None, refl, arith}
 
 -- four tests in a row that all pass
 pub four_pass : {X : Type 0} (a b c d : Bool) (p q r s : X) → a ≡ true → b ≡ true → c ≡ true → d ≡ true → cond (not a) (Some p) (cond (not b) (Some q) (cond (not c) (Some r) (cond (not d) (Some s) None))) ≡ None

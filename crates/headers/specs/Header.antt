@@ -7,14 +7,14 @@
 --   8    a count leaves its limits
 --   7    a field is not below its count, or is unused and not 0        place: the statement's, from 0; field: from 1
 -- Refusal 9, of statements that are not admissible, comes after all of these and is judged elsewhere.
-use Rattle.std.specs.Prelude.{◌≡◌, ℕ, ◌+◌, ◌*◌, ◌/◌, ◌%◌, ◌<◌, Bool, true, false, cond, not, ◌&&◌, List, [], ◌∷◌, ◌++◌, map, length, Some, None, Ok, Err, Option, Result, ◌==◌, nat_le}
+use Rattle.std.specs.Prelude.{◌≡◌, ℕ, ◌+◌, ◌*◌, Bool, true, cond, not, ◌&&◌, List, ◌++◌, map, length, Some, None, Ok, Err, Option, Result, ◌==◌, nat_le}
 use Rattle.rules.specs.Limits.{within_limits}
 use Rattle.rules.specs.Refusals.{refusal}
 use Rattle.rules.specs.declared.refusals.Reason.TheVariants as reason
 use Rattle.rules.specs.declared.refusals.Refusal.{Refusal}
 use Rattle.rules.specs.declared.statements.Statement.{Statement}
 use Rattle.headers.specs.declared.record.Record.{Record}
-use Rattle.headers.specs.Bytes.{at, long, four, slice, cut, even, all, joined}
+use Rattle.headers.specs.Bytes.{long, four, slice, cut, even, all, joined}
 use Rattle.headers.specs.Names.{lines, are_names, line}
 use Rattle.headers.specs.Records.{record_in, record_bytes, is_record, stated_by, records_refusal}
 

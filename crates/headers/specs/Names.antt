@@ -1,7 +1,7 @@
 -- A part of names: lines of 1 to 24 of a-z, 0-9 and hyphen, each ended by byte 10, no line twice.
-use Rattle.std.specs.Prelude.{ℕ, ◌+◌, Bool, true, false, cond, not, ◌&&◌, ◌||◌, List, [], ◌∷◌, ◌++◌, length, ◌==◌, nat_le}
+use Rattle.std.specs.Prelude.{ℕ, Bool, true, false, cond, not, ◌&&◌, ◌||◌, List, [], ◌∷◌, ◌++◌, length, ◌==◌, nat_le}
 use Rattle.std.specs.Str.{bytes_eq}
-use Rattle.headers.specs.Bytes.{all, joined}
+use Rattle.headers.specs.Bytes.{all}
 
 -- a-z, 0-9 or hyphen
 abbrev pub name_byte : ℕ → Bool

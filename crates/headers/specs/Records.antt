@@ -1,6 +1,6 @@
 -- The record of a statement. It has eight bytes: the letter, a zero byte, and three fields of 16 bits each, high byte
 -- first. Eight bytes are a record if a form has their letter and their second byte is zero.
-use Rattle.std.specs.Prelude.{ℕ, ◌+◌, Bool, true, false, cond, ◌&&◌, List, [], ◌∷◌, ◌++◌, is_some, Some, None, Option, ◌==◌}
+use Rattle.std.specs.Prelude.{ℕ, ◌+◌, Bool, ◌&&◌, List, [], ◌∷◌, ◌++◌, is_some, Some, None, Option, ◌==◌}
 use Rattle.rules.specs.Forms.{fields_of_form}
 use Rattle.rules.specs.Statements.{letter_of, fields_of, statement_of, three}
 use Rattle.rules.specs.Fits.{wrong_by_form, refuse_field}

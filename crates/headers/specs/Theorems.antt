@@ -1,6 +1,6 @@
 -- Only one header exists for given names and statements: what is written is read again, and two accepted headers with the
 -- same names and statements, in the same order, are the same bytes.
-use Rattle.std.specs.Prelude.{◌≡◌, ℕ, ◌<◌, Bool, true, List, length, None, Ok}
+use Rattle.std.specs.Prelude.{◌≡◌, ℕ, ◌<◌, true, List, length, None, Ok}
 use Rattle.rules.specs.Fits.{base_refusal}
 use Rattle.headers.specs.Bytes.{at, all}
 use Rattle.headers.specs.Names.{is_name, distinct}

@@ -7,11 +7,11 @@ use native.Mathlib.Decide.{dec_lt, ℕ_discrete}
 use Rattle.rules.specs.Statements.{letter_of}
 use Rattle.rules.specs.declared.statements.Statement.{Statement}
 use Rattle.rules.specs.declared.statements.Statement.TheVariants.{Member, Related, Empty, Universal, Only, Nominal, Subclass, Both, Reaches, Requires, SelfWithin, SelfPaired, Subrole, Chain, RoleBoth, Product, DomainRange}
-use Rattle.calculus.specs.Trees.{In, here, there, All, Closed, trees_closed}
+use Rattle.calculus.specs.Trees.{In, here, there, All, Closed}
 use Rattle.calculus.specs.Tests.{Decides}
 use Rattle.calculus.specs.Places.{At}
 use Rattle.roles.specs.Roles.{IsSimple}
-use Rattle.meaning.proofs.RoleSteps.{Stepped, chain_nonsimple, subrole_nonsimple, role_tree, role_fold}
+use Rattle.meaning.proofs.RoleSteps.{chain_nonsimple, subrole_nonsimple, role_tree}
 use Rattle.calculus.specs.Steps.{Step, Follows, by}
 use Rattle.calculus.specs.Steps.{rule_1, rule_2, rule_3, rule_5a, rule_5e, rule_5f, rule_5g, rule_6, rule_7, rule_8, rule_9j, rule_9b, rule_10j, rule_11, rule_12, rule_13, rule_14, rule_15, rule_16, rule_17, rule_18, rule_19, rule_20, rule_21, rule_22, rule_23, rule_24, rule_25, rule_26, rule_27, rule_28, rule_29}
 use Rattle.calculus.specs.declared.terms.First.{First}

@@ -2,7 +2,7 @@
 use Rattle.std.proofs.Common.{◌≡◌, ℕ, ◌⊎◌, List, sym, refl, ◌∙◌, subst, subst₂, inl, inr, ⊎_elim}
 use Rattle.rules.specs.declared.statements.Statement.{Statement}
 use Rattle.rules.specs.declared.statements.Statement.TheVariants.{Empty, Requires, Chain}
-use Rattle.calculus.specs.Trees.{All, Tree, fold, trees_closed}
+use Rattle.calculus.specs.Trees.{All, fold}
 use Rattle.calculus.specs.Places.{At, AllWellFormed}
 use Rattle.roles.specs.Roles.{Admissible, IsSimple, IsRange}
 use Rattle.meaning.proofs.RoleSteps.{Stepped, chain_nonsimple, subrole_nonsimple, stated_range, subrole_range, role_tree, role_fold}

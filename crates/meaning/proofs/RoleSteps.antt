@@ -1,6 +1,6 @@
 -- The role steps with their statements at hand: one case for each role rule.
 use Rattle.std.proofs.Common.{ℕ, List, [], ◌∷◌}
-use Rattle.marks.specs.Trees.{All, Tree, Grounded}
+use Rattle.marks.specs.Trees.{All, Grounded}
 use Rattle.marks.proofs.Folds.{fold, trees_closed}
 use Rattle.rules.specs.Places.{At}
 use Rattle.rules.specs.declared.statements.Statement.{Statement}

@@ -4,7 +4,7 @@ use Rattle.std.proofs.Common.{◌≡◌, ℕ, suc, Bool, false, ◌&&◌, ◌||�
 use Rattle.rules.specs.Statements.{letter_of}
 use Rattle.rules.specs.declared.statements.Statement.{Statement}
 use Rattle.rules.specs.declared.statements.Statement.TheVariants.{Subrole, Chain}
-use Rattle.calculus.specs.Trees.{All, fold, trees_closed}
+use Rattle.calculus.specs.Trees.{All}
 use Rattle.calculus.specs.Tests.{Decides}
 use Rattle.calculus.specs.Places.{At}
 use Rattle.roles.specs.Roles.{IsNonSimple}

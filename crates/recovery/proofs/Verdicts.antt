@@ -1,10 +1,8 @@
 -- Entries, one by one.
-use Rattle.std.proofs.Common.{◌≡◌, ℕ, zero, suc, ◌+◌, ◌-◌, ◌/◌, ◌%◌, ◌<◌, ◌≤◌, Bool, true, false, cond, List, [], ◌∷◌, ◌++◌, length, take, drop, Ok, Err, Result, sym, refl, ap, ◌∙◌, arith, length-drop}
-use Rattle.std.proofs.lemmas.Bool.{cond-true, cond-false}
-use Rattle.recovery.specs.declared.entries.Verdict.{Verdict}
+use Rattle.std.proofs.Common.{◌≡◌, ℕ, suc, ◌+◌, ◌/◌, ◌<◌, ◌≤◌, Bool, true, false, cond, List, [], ◌∷◌, ◌++◌, length, take, drop, Ok, Err, sym, refl, ap, ◌∙◌, arith, length-drop}
+use Rattle.std.proofs.lemmas.Bool.{cond-false}
 use Rattle.recovery.specs.declared.entries.Verdict.TheVariants as v
 use Rattle.headers.specs.Bytes.{pieces, cut}
-use Rattle.rules.specs.declared.refusals.Refusal.{Refusal}
 use Rattle.recovery.specs.declared.entries.Judged.{Judged}
 use Rattle.recovery.specs.declared.entries.Judged.TheVariants as k
 use Rattle.recovery.specs.Entries.{judged, kept_with, no_room_left, verdict, kept_of}

@@ -1,7 +1,7 @@
 -- A recovery file, written piece by piece. It is begun with 16 zero bytes and the header; each entry adds fourteen bytes;
 -- closing writes the directory over the 16 zero bytes. Beginning and adding are refused by 16 if the output is too short,
 -- or if the file would be past 32 bits, and then no byte has changed.
-use Rattle.std.specs.Prelude.{◌≡◌, ℕ, ◌+◌, ◌-◌, Bool, true, false, cond, ◌&&◌, List, [], ◌∷◌, ◌++◌, length, replicate, nat_le}
+use Rattle.std.specs.Prelude.{◌≡◌, ℕ, ◌+◌, ◌-◌, Bool, true, false, cond, ◌&&◌, List, ◌∷◌, ◌++◌, length, replicate, nat_le}
 use Rattle.rules.specs.declared.refusals.Refusal.{Refusal}
 use Rattle.headers.specs.Bytes.{two, joined}
 use Rattle.headers.specs.Header.{pair}

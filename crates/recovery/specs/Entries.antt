@@ -4,7 +4,7 @@
 --   after the last entry           yes; or no at the next place if a fact is missing
 -- `good seen e` says whether e is good after the entries `seen`, `full seen` that there is no room for another, and
 -- `whole seen` that no fact is missing.
-use Rattle.std.specs.Prelude.{ℕ, ◌+◌, Bool, true, false, cond, List, [], ◌∷◌, ◌++◌, Ok, Err, Result}
+use Rattle.std.specs.Prelude.{ℕ, ◌+◌, Bool, cond, List, [], ◌∷◌, ◌++◌, Ok, Err, Result}
 use Rattle.rules.specs.Refusals.{refusal}
 use Rattle.rules.specs.declared.refusals.Reason.TheVariants.{StoreTooSmall}
 use Rattle.rules.specs.declared.refusals.Refusal.{Refusal}

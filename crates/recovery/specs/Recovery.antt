@@ -2,7 +2,7 @@
 -- the two parts, or refused:
 --   13   the directory is wrong                                        place: the first wrong part, from 1
 --   14   the length of the entries is not a multiple of fourteen       place: 2
-use Rattle.std.specs.Prelude.{◌≡◌, ℕ, Bool, true, false, cond, not, ◌&&◌, List, length, Some, None, Option, ◌==◌}
+use Rattle.std.specs.Prelude.{◌≡◌, ℕ, cond, not, ◌&&◌, List, length, None, Option, ◌==◌}
 use Rattle.rules.specs.declared.refusals.Refusal.{Refusal}
 use Rattle.headers.specs.Bytes.{even}
 use Rattle.headers.specs.Header.{starts, end, part, wrong_directory, wrong_content}

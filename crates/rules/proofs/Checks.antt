@@ -1,10 +1,10 @@
 -- The check of statements, one by one.
-use Rattle.std.proofs.Common.{◌≡◌, ℕ, suc, ◌+◌, ◌<◌, ◌≤◌, Bool, true, false, cond, not, ◌&&◌, eqb, List, [], ◌∷◌, length, drop, is_some, Some, None, Option, sym, refl, ap, ◌∙◌, add-one, arith, drop_of_length-le, drop-cons, eq-eqb, ne_eqb, eqb-true}
+use Rattle.std.proofs.Common.{◌≡◌, ℕ, ◌+◌, ◌<◌, ◌≤◌, Bool, true, false, cond, not, eqb, List, length, drop, is_some, Some, None, Option, sym, refl, ap, ◌∙◌, add-one, drop_of_length-le, drop-cons, eq-eqb, ne_eqb, eqb-true}
 use borrow.Author.Tests.{both_ways}
 use Rattle.std.proofs.lemmas.Bool.{and_parts, and_from, and_left, and_right}
 use Rattle.rules.specs.Forms.{fields_of_form}
 use Rattle.rules.specs.Statements.{letter_of, fields_of}
-use Rattle.rules.specs.Fits.{wrong_field, wrong_by_form, wrong_in, refuse_field, statements_refusal, base_refusal, all_fit, pass, if_passed}
+use Rattle.rules.specs.Fits.{wrong_field, wrong_by_form, wrong_in, refuse_field, statements_refusal, base_refusal, all_fit, pass}
 use Rattle.rules.specs.Formed.{unrefused_fit, fit_unrefused}
 use Rattle.rules.specs.Limits.{within_limits}
 use Rattle.rules.specs.Places.{place}

@@ -1,7 +1,7 @@
-use Rattle.std.proofs.Common.{◌≡◌, ℕ, zero, suc, ◌+◌, ◌-◌, ◌<◌, ◌≤◌, Bool, true, false, cond, eqb, ltb, List, [], ◌∷◌, ◌++◌, length, get_or, drop, is_some, Some, None, Ok, Err, Option, Result, sym, refl, ap, ◌∙◌, subst, arith, length-append}
+use Rattle.std.proofs.Common.{◌≡◌, ℕ, zero, suc, ◌+◌, ◌-◌, ◌<◌, Bool, true, false, cond, eqb, ltb, List, [], ◌∷◌, ◌++◌, length, get_or, drop, is_some, Some, None, Ok, Err, Option, Result, sym, refl, ap, ◌∙◌, subst, arith, length-append}
 use Rattle.std.specs.Str.{bytes_eq}
 use Rattle.std.proofs.lemmas.Slice.Eq.{bytes_eq-Decides}
-use Rattle.std.proofs.lemmas.Bool.{ltb-true, eqb-true}
+use Rattle.std.proofs.lemmas.Bool.{eqb-true}
 use Rattle.rules.specs.Forms.{fields_of_form, in_order, used}
 use Rattle.rules.specs.Limits.{most, most_statements, within_limits}
 use Rattle.rules.specs.Refusals.{refusal as at}
@@ -13,7 +13,7 @@ use Rattle.rules.specs.declared.refusals.Refusal.{Refusal}
 use Rattle.rules.specs.declared.refusals.Reason.TheVariants as because
 use Rattle.rules.specs.declared.statements.Statement.{Statement}
 use Rattle.reader.specs.Text.{lines, words, proper, is_name}
-use Rattle.ruletext.specs.Outcome.{Name, Contents, names, found, nothing, declared, added, check, then, known, all_names, numbers, new_name, declares, declared_kind, by_numbers, stating, by_form, by_kind, by_letter, by_first, only_letter, by_words, by_line, by_lines, counted, by_text}
+use Rattle.ruletext.specs.Outcome.{Name, Contents, names, found, nothing, declared, added, check, then, known, all_names, numbers, new_name, declares, declared_kind, stating, by_form, by_kind, by_letter, by_words, by_line, by_lines, counted, by_text}
 use Rattle.reader.specs.Cut.{Each}
 use Rattle.ruletext.specs.Laws.{EachWith, words_of, DeclaredIn, Called, FieldsCalled, StatedIn, Apart, Orderly}
 

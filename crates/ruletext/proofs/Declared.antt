@@ -1,12 +1,11 @@
 use Rattle.rules.specs.Refusals.{refusal as at}
 use Rattle.rules.specs.declared.refusals.Reason.TheVariants as because
-use Rattle.std.proofs.Common.{◌≡◌, ℕ, ◌+◌, ◌<◌, ◌≤◌, Bool, true, false, cond, eqb, ltb, List, [], ◌∷◌, ◌++◌, map, length, is_some, Ok, Err, Option, Result, sym, refl, ap, ◌∙◌, arith}
+use Rattle.std.proofs.Common.{◌≡◌, ℕ, ◌+◌, ◌<◌, ◌≤◌, Bool, true, false, List, ◌∷◌, map, length, is_some, Ok, Err, Option, Result, sym, ap, ◌∙◌, arith}
 use lib.ListN.{length-map}
 use Rattle.std.proofs.lemmas.Bool.{eq-eqb, ne_eqb, lt-ltb, le-ltb}
 use Rattle.rules.specs.declared.refusals.Refusal.{Refusal}
 use Rattle.rules.specs.declared.forms.Kind.{Kind}
-use Rattle.rules.specs.declared.forms.Kind.TheVariants.{Individual, Class, Role}
-use Rattle.ruletext.specs.Outcome.{Name, Contents, names, found, all_names, new_name, declares, declared}
+use Rattle.ruletext.specs.Outcome.{Contents, names, found, all_names, new_name, declares, declared}
 use Rattle.rules.specs.Limits.{most}
 use Rattle.ruletext.specs.Reading.{spelt}
 use Rattle.reader.specs.declared.reader.Word.{Word}

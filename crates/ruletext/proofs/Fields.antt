@@ -1,9 +1,8 @@
 use Rattle.rules.specs.Refusals.{refusal as at}
 use Rattle.rules.specs.declared.refusals.Reason.TheVariants as because
-use Rattle.std.proofs.Common.{◌≡◌, ℕ, ◌+◌, ◌<◌, ◌≤◌, Bool, true, false, cond, List, [], ◌∷◌, ◌++◌, map, length, Some, None, Ok, Err, Option, Result, sym, refl, ap, ◌∙◌, arith}
+use Rattle.std.proofs.Common.{◌≡◌, ℕ, ◌+◌, ◌<◌, ◌≤◌, Bool, true, false, cond, List, [], ◌∷◌, map, length, Some, None, Ok, Err, Option, sym, ap, ◌∙◌, arith}
 use Rattle.std.specs.Str.{bytes_eq}
 use Rattle.rules.specs.declared.forms.Kind.{Kind}
-use Rattle.rules.specs.declared.forms.Kind.TheVariants.{Individual, Class, Role}
 use Rattle.ruletext.specs.Outcome.{Name, Contents, names, found, numbers, then}
 use Rattle.ruletext.specs.Reading.{spelt}
 use Rattle.reader.specs.declared.reader.Word.{Word}

@@ -1,5 +1,5 @@
 -- Every statement that a text gives is well formed: its fields number declared names.
-use Rattle.std.proofs.Common.{◌≡◌, ℕ, ◌+◌, ◌<◌, Bool, true, false, cond, ◌&&◌, eqb, ◌⊎◌, List, [], ◌∷◌, ◌++◌, length, get_or, Some, None, Ok, Option, sym, refl, ap, ◌∙◌, subst, inl, inr, arith}
+use Rattle.std.proofs.Common.{◌≡◌, ℕ, Bool, true, false, cond, eqb, ◌⊎◌, List, [], ◌∷◌, length, get_or, Some, None, Ok, Option, refl, ap, ◌∙◌, subst, inl, inr, arith}
 use Rattle.std.proofs.lemmas.Bool.{eqb-true, and_from}
 use Rattle.rules.specs.Fits.{count, FieldFits, FormFits, WellFormed, all_fit}
 use Rattle.rules.specs.Formed.{formed_fits}
@@ -11,7 +11,7 @@ use Rattle.rules.specs.declared.forms.FieldKinds.{FieldKinds}
 use Rattle.rules.specs.declared.statements.Statement.{Statement}
 use Rattle.rules.specs.declared.statements.Statement.TheVariants as s
 use Rattle.ruletext.specs.Outcome.{Contents, names, by_text}
-use Rattle.ruletext.specs.Laws.{EachWith, Called, FieldsCalled, StatedIn}
+use Rattle.ruletext.specs.Laws.{EachWith, FieldsCalled, StatedIn}
 use Rattle.ruletext.proofs.Accepted.{orderly}
 
 -- One line of the table of letters.

@@ -1,12 +1,11 @@
-use Rattle.std.proofs.Common.{◌≡◌, ℕ, ◌<◌, ◌≤◌, List, length, Ok, Err, Result, sym, refl, ap, ◌∙◌, arith}
+use Rattle.std.proofs.Common.{◌≡◌, ℕ, ◌<◌, ◌≤◌, List, length, Ok, Err, refl, ap, arith}
 use Rattle.rules.specs.Refusals.{refusal}
 use Rattle.rules.specs.declared.refusals.Refusal.{Refusal}
 use Rattle.rules.specs.declared.refusals.Reason.TheVariants as because
-use Rattle.ruletext.specs.declared.verdict.Verdict.{Verdict}
 use Rattle.ruletext.specs.declared.verdict.Verdict.TheVariants as v
 use Rattle.ruletext.specs.Outcome.{Contents, nothing}
 use Rattle.ruletext.specs.Means.{Means}
-use Rattle.ruletext.specs.Verdicts.{Judged, Told, verdict, left_by}
+use Rattle.ruletext.specs.Verdicts.{Told}
 
 -- The ways of an input, over what the code has at hand: what it answers, and what has been read afterwards.
 module _ (input : List ℕ) where

@@ -1,19 +1,15 @@
-use Rattle.std.proofs.Common.{◌≡◌, ℕ, ◌<◌, ◌≤◌, List, map, length, Some, None, Ok, Err, Option, Result, sym, refl, ap, ◌∙◌, subst, arith}
+use Rattle.std.proofs.Common.{◌≡◌, ℕ, List, map, length, Some, None, Ok, Err, Option, Result, sym, refl, ap, ◌∙◌, subst, arith}
 use native.Mathlib.Decide.{dec_lt}
 use lib.ListN.{length-map}
 use Rattle.rules.specs.Fits.{base_refusal, if_passed, pass}
 use Rattle.rules.specs.Formed.{Accepted, accepted_unrefused, accepted_kept}
-use Rattle.rules.specs.Refusals.{refusal}
 use Rattle.rules.specs.declared.refusals.Refusal.{Refusal}
-use Rattle.rules.specs.declared.refusals.Reason.TheVariants as because
 use Rattle.rules.specs.declared.statements.Statement.{Statement}
 use Rattle.reader.specs.declared.reader.Word.{Word}
 use Rattle.slottable.specs.declared.slot.Slot.{Slot}
 use Rattle.ruletext.specs.Outcome.{Contents, nothing, by_text}
 use Rattle.ruletext.specs.Reading.{spelt}
-use Rattle.ruletext.specs.Means.{Means}
 use Rattle.ruletext.specs.Verdicts.{Judged, Told, verdict, left_by}
-use Rattle.ruletext.specs.declared.verdict.Verdict.{Verdict}
 use Rattle.ruletext.specs.declared.verdict.Verdict.TheVariants as v
 use Rattle.ruletext.proofs.Accepted.{orderly}
 use Rattle.ruletext.proofs.Fitted.{text_fits}

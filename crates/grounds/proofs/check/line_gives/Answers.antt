@@ -1,4 +1,4 @@
-use mathlib.Core.Path.{◌≡◌, refl, sym}
+use mathlib.Core.Path.{refl, sym}
 use borrow.Author.Tests.{both_ways}
 use Rattle.linetable.specs.Table.{touches, suits, fill}
 use Rattle.linetable.specs.Fitting.{fits_touches, fits_suits, fits_in}

@@ -1,7 +1,7 @@
 use mathlib.Core.List.{[]}
-use mathlib.Core.Path.{◌≡◌, subst}
+use mathlib.Core.Path.{subst}
 use Rattle.calculus.specs.Tests.{Decides}
-use Rattle.linetable.specs.Table.{key, lines}
+use Rattle.linetable.specs.Table.{key}
 use Rattle.grounds.specs.Given.{SaidGives}
 use Rattle.grounds.proofs.Ways.{said_decides}
 use Rattle.grounds.proofs.check.placed_gives.Goals as goal

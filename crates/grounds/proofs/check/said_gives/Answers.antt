@@ -1,4 +1,4 @@
-use mathlib.Core.Path.{◌≡◌, ap₂, ◌∙◌}
+use mathlib.Core.Path.{ap₂, ◌∙◌}
 use mathlib.Core.Bool.{◌||◌}
 use Rattle.grounds.proofs.Said.{told_nothing, told_just, told_two, told_four}
 use Rattle.grounds.proofs.check.said_gives.Goals as goal

@@ -1,4 +1,4 @@
-use Rattle.std.proofs.Common.{◌≡◌, ◌+◌, ◌*◌, ◌≤◌, length, sym, refl, ap, ◌∙◌, arith}
+use Rattle.std.proofs.Common.{◌*◌, length, ap, ◌∙◌, arith}
 use Rattle.headers.specs.Bytes.{joined}
 use Rattle.headers.specs.Records.{record_bytes}
 use Rattle.headers.specs.Header.{directory}

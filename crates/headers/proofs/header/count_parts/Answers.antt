@@ -1,4 +1,4 @@
-use Rattle.std.proofs.Common.{◌≡◌, sym, refl}
+use Rattle.std.proofs.Common.{sym, refl}
 use Rattle.headers.proofs.Judging.{held_from}
 use Rattle.headers.proofs.header.count_parts.Goals as goal
 

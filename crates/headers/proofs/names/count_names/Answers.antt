@@ -1,4 +1,4 @@
-use Rattle.std.proofs.Common.{◌≡◌, sym, refl, ap, ◌∙◌, arith}
+use Rattle.std.proofs.Common.{sym, ◌∙◌, arith}
 use Rattle.headers.proofs.Lines.{names_step, names_count, names_end, names_open, none_none, shorter}
 use Rattle.headers.proofs.names.count_names.Goals as goal
 

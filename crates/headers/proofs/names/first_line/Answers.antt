@@ -1,7 +1,6 @@
-use Rattle.std.proofs.Common.{◌≡◌, ℕ, ◌+◌, ◌-◌, ◌<◌, List, ◌∷◌, ◌++◌, length, take, drop, sym, ap, ◌∙◌, arith}
+use Rattle.std.proofs.Common.{ℕ, ◌<◌, List, arith}
 use native.Mathlib.Nat.{sub-zero}
 use Rattle.std.proofs.lemmas.List.{take_rest}
-use Rattle.headers.specs.Names.{lines}
 use Rattle.headers.proofs.Lines.{split_at, lines_split, lines_none}
 use Rattle.headers.proofs.names.first_line.Goals as goal
 

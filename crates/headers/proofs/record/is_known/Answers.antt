@@ -1,4 +1,4 @@
-use Rattle.std.proofs.Common.{◌≡◌, is_some, ap, ◌∙◌}
+use Rattle.std.proofs.Common.{is_some, ap, ◌∙◌}
 use Rattle.rules.specs.Forms.{fields_of_form}
 use Rattle.headers.specs.Records.{known_letter}
 use Rattle.headers.proofs.record.is_known.Goals as goal

@@ -1,4 +1,4 @@
-use Rattle.std.proofs.Common.{◌≡◌, sym, ◌∙◌}
+use Rattle.std.proofs.Common.{sym, ◌∙◌}
 use Rattle.headers.proofs.Pieces.{record_good, record_bad}
 use Rattle.headers.proofs.statements.are_records.Goals as goal
 

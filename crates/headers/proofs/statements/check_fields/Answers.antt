@@ -1,4 +1,4 @@
-use Rattle.std.proofs.Common.{◌≡◌, ℕ, ◌-◌, ◌≤◌, List, length, drop, sym, ap, ◌∙◌, arith, length-drop}
+use Rattle.std.proofs.Common.{◌≡◌, ℕ, ◌-◌, List, length, ap, ◌∙◌, arith, length-drop}
 use Rattle.headers.specs.Records.{records_refusal}
 use Rattle.headers.proofs.Pieces.{fields_step, fields_bad, records_none}
 use Rattle.headers.proofs.statements.check_fields.Goals as goal

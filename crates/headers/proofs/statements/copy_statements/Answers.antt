@@ -1,4 +1,4 @@
-use Rattle.std.proofs.Common.{◌≡◌, ℕ, ◌<◌, length, ◌∙◌, arith}
+use Rattle.std.proofs.Common.{ℕ, ◌<◌, length, ◌∙◌, arith}
 use Rattle.headers.specs.Header.{statements_in}
 use Rattle.headers.proofs.Copying.{given_none, given_some, next_rest, next_length, next_memory, ended}
 use Rattle.headers.proofs.statements.copy_statements.Goals as goal

@@ -1,4 +1,4 @@
-use Rattle.std.proofs.Common.{◌≡◌, ℕ, ◌+◌, ◌-◌, ◌≤◌, length, take, drop, sym, refl, ap, ◌∙◌, arith, length-drop}
+use Rattle.std.proofs.Common.{◌-◌, length, take, drop, sym, refl, ap, ◌∙◌, arith, length-drop}
 use Rattle.std.proofs.lemmas.List.{take_rest}
 use Rattle.recovery.proofs.Verdicts.{good_verdict, good_kept, bad_verdict, bad_kept, full_verdict, full_kept}
 use Rattle.recovery.proofs.entries.judge_entries.Goals as goal

@@ -1,4 +1,4 @@
-use Rattle.std.proofs.Common.{◌≡◌, length, ap, rules}
+use Rattle.std.proofs.Common.{◌≡◌, length, ap}
 use Rattle.rules.specs.Refusals.{refusal}
 use Rattle.rules.specs.declared.refusals.Reason.TheVariants.{StoreTooSmall}
 use Rattle.wordtable.proofs.Masks.{cleared_none}

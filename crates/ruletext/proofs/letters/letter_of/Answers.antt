@@ -1,4 +1,4 @@
-use Rattle.std.proofs.Common.{◌≡◌, Some, sym, ap, ◌∙◌, arith}
+use Rattle.std.proofs.Common.{arith}
 use Rattle.ruletext.proofs.Checked.{only_one, not_one}
 use Rattle.ruletext.proofs.letters.letter_of.Goals as goal
 

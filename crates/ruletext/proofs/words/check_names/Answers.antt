@@ -1,4 +1,4 @@
-use Rattle.std.proofs.Common.{◌≡◌, ◌+◌, sym, ap, arith, rules}
+use Rattle.std.proofs.Common.{◌+◌, sym}
 use Rattle.ruletext.proofs.Checked.{names_stop, names_more, names_end}
 use Rattle.ruletext.proofs.words.check_names.Goals as goal
 

@@ -1,5 +1,4 @@
-use Rattle.std.proofs.Common.{◌≡◌, length, vec_items, vec_len, sym, refl, ◌∙◌}
-use Rattle.ruletext.specs.Reading.{contents}
+use Rattle.std.proofs.Common.{vec_items, vec_len}
 use Rattle.survey.proofs.Told.{from_counts, not_refused, long}
 use Rattle.survey.proofs.report.facts_of.Goals as goal
 

@@ -1,4 +1,4 @@
-use Rattle.std.proofs.Common.{◌≡◌, sym, refl, ◌∙◌}
+use Rattle.std.proofs.Common.{refl}
 use Rattle.ruletext.specs.Reading.{contents}
 use Rattle.survey.proofs.Told.{told_refused, told_read}
 use Rattle.survey.proofs.report.tell.Goals as goal

@@ -1,4 +1,4 @@
-use Rattle.std.proofs.Common.{◌≡◌, ap, ◌∙◌}
+use Rattle.std.proofs.Common.{ap, ◌∙◌}
 use Rattle.rules.specs.Statements.{statement_of}
 use Rattle.headers.specs.Records.{stated}
 use Rattle.headers.proofs.record.Record.statement.Goals as goal

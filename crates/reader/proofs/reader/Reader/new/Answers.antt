@@ -1,4 +1,4 @@
-use Rattle.std.proofs.Common.{◌≡◌, refl, rules}
+use Rattle.std.proofs.Common.{refl}
 use Rattle.reader.proofs.Cuts.{words_none}
 use Rattle.reader.proofs.reader.Reader.new.Goals as goal
 

@@ -1,4 +1,4 @@
-use Rattle.std.proofs.Common.{◌≡◌, ℕ, Bool, true, cond, List, [], sym, refl, ap, ◌∙◌, arith, rules}
+use Rattle.std.proofs.Common.{◌≡◌, Bool, true, cond, [], refl, ap, ◌∙◌, arith, rules}
 use Rattle.reader.specs.Text.{one, lines}
 use Rattle.reader.proofs.Cuts.{line_more, line_last}
 use Rattle.reader.proofs.reader.Reader.next_line.Goals as goal

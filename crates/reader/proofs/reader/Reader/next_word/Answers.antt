@@ -1,4 +1,4 @@
-use Rattle.std.proofs.Common.{◌≡◌, ◌<◌, length, sym, refl, arith, rules}
+use Rattle.std.proofs.Common.{refl, arith}
 use Rattle.reader.proofs.Cuts.{words_taken, taken_some, words_over}
 use Rattle.reader.proofs.reader.Reader.next_word.Goals as goal
 

@@ -1,5 +1,4 @@
-use Rattle.std.proofs.Common.{◌≡◌, List, vec_items, sym, ◌∙◌, subst, arith}
-use Rattle.rules.specs.declared.statements.Statement.{Statement}
+use Rattle.std.proofs.Common.{vec_items, sym, ◌∙◌, subst}
 use Rattle.roles.specs.Roles.{Admissible}
 use Rattle.ruletext.specs.Reading.{contents}
 use Rattle.ruletext.proofs.Admitted.{base_is, breaks_at}

@@ -1,5 +1,5 @@
-use Rattle.std.proofs.Common.{◌≡◌, sym, refl, ap, ◌∙◌, arith, rules}
-use Rattle.std.proofs.lemmas.Result.{err_from_is_err_and, MatchResult-weaker}
+use Rattle.std.proofs.Common.{arith}
+use Rattle.std.proofs.lemmas.Result.{err_from_is_err_and}
 use Rattle.reader.specs.Text.{words}
 use Rattle.ruletext.specs.Reading.{contents}
 use Rattle.ruletext.proofs.Declared.{d_not_two, d_no_name, d_before, d_full, d_put, d_room}

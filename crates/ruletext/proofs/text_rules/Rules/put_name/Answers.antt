@@ -1,4 +1,4 @@
-use Rattle.std.proofs.Common.{vec_items, vec_len, refl, arith, rules}
+use Rattle.std.proofs.Common.{vec_items, vec_len, refl, arith}
 use Rattle.ruletext.specs.Reading.{contents, spelt}
 use Rattle.ruletext.proofs.Lined.{long}
 use Rattle.ruletext.proofs.Puts.{one_more, put_individual, put_class, put_role, room_individual, room_class, room_role}

@@ -1,4 +1,3 @@
-use Rattle.ruletext.specs.Reading.{contents}
 use Rattle.reader.proofs.Rejoined.{lines_whole}
 use Rattle.ruletext.proofs.Accepted.{orderly}
 use Rattle.ruletext.proofs.One.{one_outcome}

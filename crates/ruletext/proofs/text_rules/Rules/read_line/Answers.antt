@@ -1,4 +1,4 @@
-use Rattle.std.proofs.Common.{◌≡◌, sym, refl, ap, ◌∙◌}
+use Rattle.std.proofs.Common.{sym, ◌∙◌}
 use Rattle.std.proofs.lemmas.Result.{MatchResult-weaker}
 use Rattle.ruletext.specs.Reading.{contents}
 use Rattle.ruletext.proofs.Lined.{l_bytes, l_blank, l_long, l_letter}

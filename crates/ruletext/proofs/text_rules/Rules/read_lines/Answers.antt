@@ -1,4 +1,3 @@
-use Rattle.std.proofs.Common.{◌≡◌, Err, sym, refl, ap, ◌∙◌}
 use Rattle.std.proofs.lemmas.Result.{err_from_is_err_and, MatchResult-weaker}
 use Rattle.reader.specs.Text.{lines}
 use Rattle.ruletext.specs.Outcome.{by_lines, nothing}

@@ -1,4 +1,4 @@
-use Rattle.std.proofs.Common.{◌≡◌, ◌+◌, List, length}
+use Rattle.std.proofs.Common.{◌≡◌, ◌+◌, length}
 use Rattle.reader.specs.Text.{lines}
 use Rattle.ruletext.specs.Outcome.{by_lines, nothing}
 use Rattle.ruletext.specs.Reading.{contents}

@@ -1,6 +1,5 @@
-use Rattle.std.proofs.Common.{◌≡◌, sym, refl, ap, ◌∙◌, subst, inl, inr}
+use Rattle.std.proofs.Common.{inl, inr}
 use Rattle.std.proofs.lemmas.Result.{err_from_is_err_and, MatchResult-weaker}
-use Rattle.ruletext.specs.Reading.{contents}
 use Rattle.ruletext.proofs.Fitted.{text_fits}
 use Rattle.ruletext.proofs.Admitted.{fit_counted}
 use Rattle.ruletext.proofs.text_rules.Rules.read_text.Goals as goal

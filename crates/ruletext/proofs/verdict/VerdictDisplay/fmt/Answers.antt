@@ -1,4 +1,4 @@
-use Rattle.std.proofs.Common.{◌≡◌, sym, refl, ap, ◌∙◌, rules}
+use Rattle.std.proofs.Common.{ap}
 use Rattle.ruletext.specs.Verdicts.{verdict_text}
 use Rattle.ruletext.proofs.verdict.VerdictDisplay.fmt.Goals as goal
 
