@@ -1,5 +1,5 @@
 -- From an opened header to its outcome.
-use Rattle.std.proofs.Common.{◌≡◌, ℕ, ◌-◌, ◌<◌, ◌≤◌, true, ◌⊎◌, List, ◌++◌, length, take, drop, Some, None, Ok, Err, sym, refl, ap, ◌∙◌, subst, inl, inr, arith}
+use Rattle.std.proofs.Common.{◌≡◌, ℕ, ◌-◌, ◌≤◌, true, List, ◌++◌, length, take, drop, None, Ok, Err, sym, ap, ◌∙◌, subst, inl, inr, arith}
 use native.Mathlib.Decide.{dec_lt}
 use lib.Seq.{take-append-le}
 use Rattle.std.proofs.lemmas.List.{take_all}
@@ -18,7 +18,7 @@ use Rattle.headers.proofs.Backward.{passed, accepted_proper}
 use Rattle.headers.proofs.Spelling.{rows}
 use Rattle.headers.proofs.Judging.{refused_from, decodes_from, reads_from}
 use Rattle.intake.specs.Outcomes.{HeaderMeans}
-use Rattle.intake.specs.Taken.{Taken, Viewed, Passes, Breaks, Fails}
+use Rattle.intake.specs.Taken.{Taken, Viewed, Passes, Fails}
 
 -- All statements were copied where there is room for them.
 module _ (before after ss : List Statement) (n : ℕ) (k : Copied before after ss n) (room : length ss ≤ length before) where

@@ -1,9 +1,9 @@
 -- A header has one outcome, and what is written is accepted.
-use Rattle.std.proofs.Common.{◌≡◌, ℕ, ◌⊎◌, List, Ok, Err, Result, sym, refl, ap, ◌∙◌, subst, inl, inr, arith}
+use Rattle.std.proofs.Common.{◌≡◌, ℕ, List, Ok, Err, Result, sym, ap, ◌∙◌, subst, inl, inr, arith}
 use Rattle.rules.specs.Refusals.{refusal}
 use Rattle.rules.specs.declared.refusals.Refusal.{Refusal}
 use Rattle.rules.specs.declared.refusals.Reason.TheVariants.{NotAdmissible}
-use Rattle.roles.specs.Roles.{Admissible, FirstBreaking}
+use Rattle.roles.specs.Roles.{FirstBreaking}
 use Rattle.headers.specs.Header.{Header, decode}
 use Rattle.headers.proofs.Forward.{read_back}
 use Rattle.headers.proofs.Backward.{only_one}

@@ -3,6 +3,7 @@
 -- its header does not fit the output.
 use Rattle.std.specs.Prelude.{◌≡◌, ℕ, ◌⊎◌, List, map, Ok, Err}
 use Rattle.rules.specs.declared.refusals.Refusal.{Refusal}
+use Rattle.reader.specs.declared.reader.Word.{Word}
 use Rattle.ruletext.specs.Outcome.{Name, Contents, nothing}
 use Rattle.ruletext.specs.Means.{Means}
 use Rattle.headers.specs.Header.{Header, encode}
@@ -12,6 +13,10 @@ use Rattle.intake.specs.Outcomes.{HeaderMeans}
 -- The names of a kind, as they are spelt.
 abbrev pub spellings : List Name → List (List ℕ)
 spellings names = map (λ (x : Name). x.spelt) names
+
+-- The bytes of words.
+abbrev pub worded : List Word → List (List ℕ)
+worded words = map (λ (w : Word). w.bytes.now) words
 
 -- What the header of a text holds.
 abbrev pub header_of : Contents → Header
