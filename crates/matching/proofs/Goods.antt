@@ -1,15 +1,14 @@
 -- Good entries: their facts have proof trees, and no entries have two rows of facts.
-use Rattle.std.proofs.Common.{◌≡◌, ℕ, ◌+◌, ◌<◌, ◌≤◌, ◌⊎◌, List, [], ◌∷◌, ◌++◌, length, sym, refl, ap, ◌∙◌, subst, inl, inr, arith, length-append}
+use Rattle.std.proofs.Common.{◌≡◌, ℕ, ◌+◌, ◌≤◌, ◌⊎◌, List, [], ◌∷◌, ◌++◌, length, sym, refl, ◌∙◌, subst, inl, inr, arith, length-append}
 use Rattle.rules.specs.Limits.{most_statements}
 use Rattle.rules.specs.Formed.{AllWellFormed, all_formed}
 use Rattle.rules.specs.declared.base.RuleBase.{RuleBase}
 use Rattle.rules.specs.declared.statements.Statement.{Statement}
 use Rattle.marks.specs.Trees.{In, here, there}
 use Rattle.calculus.specs.Trees.{all_more, pick, node}
-use Rattle.calculus.specs.Steps.{Gives, by, HasTree}
+use Rattle.calculus.specs.Steps.{by, HasTree}
 use Rattle.calculus.specs.Numbers.{Inside}
 use Rattle.calculus.proofs.Contained.{trees_inside}
-use Rattle.calculus.specs.declared.terms.Ground.{Ground}
 use Rattle.calculus.specs.declared.terms.Fact.{Fact}
 use Rattle.recovery.specs.Begun.{entry_bytes}
 use Rattle.recovery.specs.EntryCuts.{EntryFits}

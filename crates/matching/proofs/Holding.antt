@@ -1,5 +1,5 @@
 -- What the store holds, and the facts of the entries.
-use Rattle.std.proofs.Common.{◌≡◌, ℕ, ◌+◌, ◌<◌, ◌≤◌, Bool, true, false, ◌⊎◌, ◌↔◌, List, [], ◌∷◌, ◌++◌, map, sym, refl, ap, ◌∙◌, subst, inl, inr, arith}
+use Rattle.std.proofs.Common.{◌≡◌, ℕ, Bool, true, false, List, [], ◌∷◌, ◌++◌, map, sym, refl, ap, ◌∙◌, subst, inl, inr}
 use borrow.Author.Tests.{both_ways}
 use Rattle.std.proofs.lemmas.Bool.Decides.{eqb_tells}
 use Rattle.rules.specs.declared.statements.Statement.{Statement}
@@ -7,7 +7,6 @@ use Rattle.marks.specs.Sets.{joined}
 use Rattle.marks.specs.SetLaws.{joined_here, joined_other}
 use Rattle.marks.specs.Trees.{In, here, there}
 use Rattle.calculus.specs.Trees.{all_more}
-use Rattle.calculus.specs.Steps.{Gives, HasTree}
 use Rattle.calculus.specs.Numbers.{fact_number, Inside}
 use Rattle.calculus.proofs.Numbered.{same_fact}
 use Rattle.calculus.specs.declared.terms.Ground.{Ground}
@@ -21,7 +20,7 @@ use Rattle.matching.specs.Entries.{Tells}
 use Rattle.matching.specs.Going.{GoodByHeld, BadByHeld}
 use Rattle.matching.specs.Matched.{HoldsExactly}
 use Rattle.matching.proofs.Told.{told_once}
-use Rattle.matching.proofs.Goods.{in_front, in_last, in_either, Fine, Treed, tree_inside, good_tree, good_tells}
+use Rattle.matching.proofs.Goods.{in_front, in_last, in_either, Fine, Treed, tree_inside, good_tells}
 
 in_map : {X : Type 0} (number : X → ℕ) {x : X} {xs : List X} → In x xs → In (number x) (map number xs)
 in_map number here = here

@@ -1,5 +1,5 @@
 -- The promise, from what match answers case by case.
-use Rattle.std.proofs.Common.{◌≡◌, ℕ, ◌+◌, ◌-◌, ◌<◌, ◌≤◌, Bool, true, false, ◌&&◌, leb, ◌⊎◌, ◌↔◌, List, [], ◌∷◌, ◌++◌, length, take, drop, Some, None, Ok, Err, Result, sym, refl, ap, ◌∙◌, subst, inl, inr, arith, length-append}
+use Rattle.std.proofs.Common.{◌≡◌, ℕ, ◌-◌, ◌<◌, ◌≤◌, Bool, true, false, ◌&&◌, leb, ◌⊎◌, ◌↔◌, List, [], ◌∷◌, length, take, drop, Some, None, Ok, Err, Result, sym, refl, ap, ◌∙◌, subst, inl, inr, arith, length-append}
 use Rattle.std.proofs.lemmas.List.{take_at}
 use Rattle.std.proofs.lemmas.Bool.{and_parts, leb-true}
 use Rattle.rules.specs.Fits.{base_refusal, if_passed, pass}
@@ -11,7 +11,6 @@ use Rattle.calculus.specs.Steps.{HasTree}
 use Rattle.calculus.specs.Numbers.{fact_limit}
 use Rattle.calculus.specs.declared.terms.Fact.{Fact}
 use Rattle.headers.specs.Header.{Header, part}
-use Rattle.headers.specs.Theorems.{Proper}
 use Rattle.headers.proofs.Backward.{accepted_proper}
 use Rattle.headers.specs.Bytes.{cut}
 use Rattle.recovery.specs.Recovery.{recovery_refusal, CutRecovery}
@@ -19,10 +18,10 @@ use Rattle.intake.specs.Outcomes.{HeaderMeans}
 use Rattle.intake.specs.Taken.{Taken}
 use Rattle.intake.proofs.One.{one_header}
 use Rattle.matching.specs.Complete.{Good, AllGood, entries_in, Complete}
-use Rattle.matching.specs.Matched.{Lacks, Entered, Next, too_small, WentOver, bad_entry, no_room, fact_missing, all_there, Compared, file_refused, limit_low, other_header, by_entries, ComparedWith, Matched, header_refused, header_accepted, Promise}
+use Rattle.matching.specs.Matched.{Lacks, Next, too_small, WentOver, bad_entry, no_room, fact_missing, all_there, Compared, file_refused, limit_low, other_header, by_entries, ComparedWith, Matched, header_refused, header_accepted, Promise}
 use Rattle.matching.specs.declared.verdict.Verdict.{Verdict}
 use Rattle.matching.specs.declared.verdict.Verdict.TheVariants.{Yes, No}
-use Rattle.matching.proofs.Goods.{Fine, treed_none, all_treed, all_one, Cut, cut_at, all_long}
+use Rattle.matching.proofs.Goods.{Fine, treed_none, all_one, cut_at, all_long}
 use Rattle.matching.proofs.Holding.{holds_none}
 
 -- an accepted header is within its limits

@@ -1,17 +1,15 @@
 -- Match has no choice: two answers to the same bytes, with the same limit and capacity, are the same.
-use Rattle.std.proofs.Common.{◌≡◌, ℕ, ◌+◌, ◌<◌, ◌≤◌, Bool, ◌⊎◌, List, [], ◌∷◌, ◌++◌, length, Some, None, Ok, Err, Option, Result, sym, refl, ap, ◌∙◌, subst, inl, inr, arith, length-append}
+use Rattle.std.proofs.Common.{◌≡◌, ℕ, ◌+◌, ◌≤◌, Bool, ◌⊎◌, List, [], ◌∷◌, ◌++◌, length, Some, None, Ok, Err, Option, Result, sym, refl, ap, ◌∙◌, subst, inl, inr, arith, length-append}
 use Rattle.rules.specs.declared.refusals.Refusal.{Refusal}
 use Rattle.rules.specs.declared.statements.Statement.{Statement}
 use Rattle.marks.specs.Trees.{In}
 use Rattle.calculus.specs.Steps.{HasTree}
-use Rattle.calculus.specs.Numbers.{fact_limit}
 use Rattle.calculus.specs.declared.terms.Fact.{Fact}
 use Rattle.headers.specs.Header.{Header}
 use Rattle.recovery.specs.Recovery.{recovery_refusal}
-use Rattle.intake.specs.Outcomes.{HeaderMeans}
 use Rattle.intake.proofs.One.{one_header}
 use Rattle.matching.specs.Complete.{Good, AllGood}
-use Rattle.matching.specs.Matched.{Lacks, Entered, Next, too_small, WentOver, bad_entry, no_room, fact_missing, all_there, Compared, file_refused, limit_low, other_header, by_entries, ComparedWith, Matched, header_refused, header_accepted, OneAnswer}
+use Rattle.matching.specs.Matched.{Lacks, too_small, WentOver, bad_entry, no_room, fact_missing, all_there, Compared, file_refused, limit_low, other_header, by_entries, ComparedWith, header_refused, header_accepted, OneAnswer}
 use Rattle.matching.specs.declared.verdict.Verdict.{Verdict}
 use Rattle.matching.specs.declared.verdict.Verdict.TheVariants.{Yes, No}
 use Rattle.matching.proofs.Goods.{Fine, treed_none, all_one, cut_at, all_long}

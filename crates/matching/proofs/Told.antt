@@ -11,7 +11,7 @@ use Rattle.calculus.specs.declared.terms.Fact.TheVariants.{Instance, SelfPair, P
 use Rattle.recovery.specs.EntryCuts.{EntryFits}
 use Rattle.recovery.specs.declared.entry.Entry.{Entry}
 use Rattle.matching.specs.Complete.{entry_of}
-use Rattle.matching.specs.Entries.{Tells, ToldOnce, ground_in, made}
+use Rattle.matching.specs.Entries.{ToldOnce, ground_in, made}
 
 -- an entry's parts, one by one
 letters : (e d : Entry) → e ≡ d → e.letter ≡ d.letter

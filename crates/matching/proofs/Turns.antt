@@ -1,17 +1,16 @@
 -- One entry more, and what stands where the entries end.
-use Rattle.std.proofs.Common.{◌≡◌, ℕ, suc, ◌+◌, ◌/◌, ◌<◌, ◌≤◌, Bool, true, false, List, [], ◌∷◌, ◌++◌, length, take, drop, Ok, Err, sym, refl, ap, ◌∙◌, subst, append_assoc, arith, length-append}
+use Rattle.std.proofs.Common.{◌≡◌, ℕ, suc, ◌+◌, ◌/◌, ◌<◌, ◌≤◌, Bool, true, false, List, [], ◌∷◌, ◌++◌, length, Ok, Err, sym, refl, ap, ◌∙◌, subst, append_assoc, arith, length-append}
 use borrow.Author.Tests.{both_ways}
 use Rattle.rules.specs.declared.refusals.Refusal.{Refusal}
 use Rattle.rules.specs.declared.statements.Statement.{Statement}
 use Rattle.marks.specs.Sets.{Member, tally, joined}
 use Rattle.marks.specs.SetLaws.{tally_joined, tally_none}
 use Rattle.marks.specs.Puts.{Means, after}
-use Rattle.marks.specs.Trees.{In, Tree, Closed, Missing}
+use Rattle.marks.specs.Trees.{Tree, Closed, Missing}
 use Rattle.marks.specs.declared.store.Put.{Put}
 use Rattle.marks.specs.declared.store.Put.TheVariants.{Outside, Held, Full, Added}
 use Rattle.marks.proofs.Folds.{all_map, fold, trees_closed}
-use Rattle.calculus.specs.Steps.{HasTree}
-use Rattle.calculus.specs.Numbers.{fact_number, fact_limit, Inside}
+use Rattle.calculus.specs.Numbers.{fact_number, fact_limit}
 use Rattle.calculus.proofs.Numbered.{low}
 use Rattle.calculus.specs.declared.terms.Fact.{Fact}
 use Rattle.headers.specs.Bytes.{pieces, cut}
@@ -21,8 +20,8 @@ use Rattle.recovery.specs.Begun.{entry_bytes}
 use Rattle.recovery.specs.EntryCuts.{EntryFits, EntryCut}
 use Rattle.recovery.specs.declared.entry.Entry.{Entry}
 use Rattle.matching.specs.Complete.{Good, AllGood, none}
-use Rattle.matching.specs.Going.{GoodByHeld, GoodNumber, BadByHeld}
-use Rattle.matching.specs.Matched.{HoldsExactly, Lacks, Entered, Next, too_small, WentOver, bad_entry, no_room, fact_missing, all_there}
+use Rattle.matching.specs.Going.{GoodNumber, BadByHeld}
+use Rattle.matching.specs.Matched.{HoldsExactly, Entered, too_small, WentOver, bad_entry, no_room, fact_missing, all_there}
 use Rattle.matching.specs.declared.verdict.Verdict.TheVariants.{Yes, No}
 use Rattle.matching.proofs.Goods.{Fine, Treed, treed_none, tree_inside, all_treed, one_more}
 use Rattle.matching.proofs.Holding.{holds_none, holds_more, held_in, in_held, tree_of_held, good_from, good_back}
