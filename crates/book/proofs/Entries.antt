@@ -212,7 +212,7 @@ stands_so o out size at header total room long is same =
 -- Numbers past a limit that a set does not have do not count.
 pub tally_past : (f : ℕ → Bool) (L F : ℕ) → L ≤ F → ((x : ℕ) → L ≤ x → f x ≡ false) → tally f F ≡ tally f L
 unfolding tally
-tally_past f L zero l h = ap (tally f) (omega arith)
+tally_past f L zero l h = let e : 0 ≡ L = omega arith in ap (tally f) e
 tally_past f L (suc F) l h = elim (ℕ_discrete L (suc F)) [
   | yes e ↦ ap (tally f) (sym e)
   | no e ↦

@@ -6,6 +6,6 @@ pub returns : goal.returns
 returns c =
     let ss = c.args.statements.now in
     let d = c.args.counts in
-    breaking_of d.individuals d.classes d.roles d.statements _ _ (ss ++ (c.args.last ∷ [])) c.first-breaking.result c.new.ensures.statements
-    (with_last ss c.args.last (replicate 384 c.args.last) c.copy-at.new.memory refl (omega arith) c.copy-at.ensures _ (omega arith))
-    c.first-breaking.ensures
+    breaking_of d.individuals d.classes d.roles d.statements _ _ (ss ++ (c.args.last ∷ [])) c.first_breaking.result c.new.ensures.statements
+    (with_last ss c.args.last (replicate 384 c.args.last) c.copy_at.new.memory refl (omega arith) c.copy_at.ensures _ (omega arith))
+    c.first_breaking.ensures

@@ -5,20 +5,20 @@ use Rattle.book.specs.Changes.{AddRefused}
 use Rattle.book.proofs.Changing.{fit_last, kept_all}
 use Rattle.book.proofs.changes.try_add.Goals as goal
 
-pub returns-in-err-statement : goal.returns-in-err-statement
-returns-in-err-statement c =
-    let p = err_from_is_err_and c.from-residual.result c.from-residual.ensures.1 in
-    record { counted = rw p.1 tt; right = λ h. rw (p.1, p.2) (AddRefused.misspelt c.in-err-statement.ensures) }
+pub returns-in_err-statement : goal.returns-in_err-statement
+returns-in_err-statement c =
+    let p = err_from_is_err_and c.from_residual.result c.from_residual.ensures.1 in
+    record { counted = rw p.1 tt; right = λ h. rw (p.1, p.2) (AddRefused.misspelt c.in_err-statement.ensures) }
 
 pub returns-then-place-ge384 : goal.returns-then-place-ge384
-returns-then-place-ge384 c = record { counted = tt; right = λ h. AddRefused.too_many c.in-ok-statement.ensures (omega arith) refl }
+returns-then-place-ge384 c = record { counted = tt; right = λ h. AddRefused.too_many c.in_ok-statement.ensures (omega arith) refl }
 
 pub returns-in-Some : goal.returns-in-Some
 returns-in-Some c =
     let ss = c.args.statements.now in
     let d = c.args.counts in
-    let t = c.in-ok-statement.statement in
-    let s = c.in-ok-statement.ensures in
+    let t = c.in_ok-statement.statement in
+    let s = c.in_ok-statement.ensures in
     record {
       counted = tt;
       right = λ h. AddRefused.not_admissible s (omega arith)
@@ -30,8 +30,8 @@ pub returns-in-None : goal.returns-in-None
 returns-in-None c =
     let ss = c.args.statements.now in
     let d = c.args.counts in
-    let t = c.in-ok-statement.statement in
-    let s = c.in-ok-statement.ensures in
+    let t = c.in_ok-statement.statement in
+    let s = c.in_ok-statement.ensures in
     record {
       counted = c.recounted-counts.ensures;
       right = λ h. record {

@@ -7,8 +7,8 @@ use Rattle.book.specs.Changes as changes
 use Rattle.book.proofs.Changing.{fit_without, kept_all, length_without, place_small}
 use Rattle.book.proofs.changes.try_withdraw.Goals as goal
 
-pub place-before-requires : goal.place-before-requires
-place-before-requires c = place_small _ c.args.statements.now c.args.place c.in-Some.breaking (omega arith) (omega (arith, c.requires)) c.in-Some.ensures
+pub place_before-requires : goal.place_before-requires
+place_before-requires c = place_small _ c.args.statements.now c.args.place c.in-Some.breaking (omega arith) (omega (arith, c.requires)) c.in-Some.ensures
 
 pub returns-in-Some : goal.returns-in-Some
 returns-in-Some c =

@@ -8,8 +8,8 @@ use Rattle.book.proofs.questions.count_members.Goals.{then-has, else-has}
 pub loop-x-init : goal.loop-x-init
 loop-x-init g c = tally_nothing _ 0 refl
 
-pub overflow-add-members : goal.overflow-add-members
-overflow-add-members g c =
+pub overflow_add-members : goal.overflow_add-members
+overflow_add-members g c =
     let f = marked_into c.args.counts.individuals c.args.counts.classes c.args.counts.roles (g.S.MarkStore.held c.args.store.now) c.args.class in
     omega (arith, tally_le f c.loop-x.x, c.loop-x.invariant)
 

@@ -6,4 +6,4 @@ pub returns : goal.returns
 returns g c =
     let b = c.args.self.now in
     ask_right (g.S.MarkStore.limit b.store.now) b.standing.counts c.in-Some.counts (search rules) (vec_items b.standing.statements) (g.S.MarkStore.held b.store.now) b.finished (search rules)
-    c.args.individual c.args.class (search rules) (search rules) c.has.result (search rules) c.by-mark.result c.by-mark.ensures.value
+    c.args.individual c.args.class (search rules) (search rules) c.has.result (search rules) c.by_mark.result c.by_mark.ensures.value

@@ -10,15 +10,15 @@ returns-in-Ok g c =
     let F = g.S.MarkStore.limit b.store.now in
     let P = g.S.MarkStore.capacity b.store.now in
     let before = g.S.MarkStore.held b.store.now in
-    let after = g.S.MarkStore.held c.mark-facts-outcome.new.store in
+    let after = g.S.MarkStore.held c.mark_facts-outcome.new.store in
     let m = c.in-Ok.marked in
-    let many = counted_as b.standing.counts d c.in-Some.is (vec_len b.standing.statements) b.standing.counted ∙ sym c.as-slice.ensures.len ∙ ap length c.as-slice.ensures.value in
+    let many = counted_as b.standing.counts d c.in-Some.is (vec_len b.standing.statements) b.standing.counted ∙ sym c.as_slice.ensures.len ∙ ap length c.as_slice.ensures.value in
     record {
       right = work_right F P c.args.most b.standing.counts d c.in-Some.is ss many before after b.finished m
-          (marking_of d.individuals d.classes d.roles d.statements ss c.as-slice.result.now c.as-slice.ensures.value before after F P c.args.most m.added m.state c.in-Ok.ensures.marking)
+          (marking_of d.individuals d.classes d.roles d.statements ss c.as_slice.result.now c.as_slice.ensures.value before after F P c.args.most m.added m.state c.in-Ok.ensures.marking)
           c.finishes.result c.finishes.ensures;
       lent = search rules;
-      limit-kept = search rules;
-      capacity-kept = search rules;
-      lent-kept = search rules;
+      limit_kept = search rules;
+      capacity_kept = search rules;
+      lent_kept = search rules;
     }
