@@ -74,11 +74,7 @@ fn first_wrong(counts: Counts, statements: &[Statement]) -> Option<Refusal>
 {
     for (place, statement) in statements.iter().enumerate() {
         if let Some(item) = wrong_in(counts, *statement) {
-            return Some(Refusal {
-                reason: Reason::WrongField,
-                place,
-                item,
-            });
+            return Some(Reason::WrongField.at(place, item));
         }
     }
     None

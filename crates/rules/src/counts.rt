@@ -7,7 +7,7 @@ ghost use Rattle.rules.specs.declared.refusals.Reason.TheVariants.{CountOutOfLim
 use crate::refusals::{Reason, Refusal};
 
 /// The counts of a book. No value of this type is outside the limits.
-#[derive(Clone, Copy)]
+#[derive(Clone, Copy, PartialEq, Eq)]
 pub struct Counts {
     pub individuals: u16,
     pub classes: u16,
@@ -38,11 +38,7 @@ impl Counts {
             || roles > 32
             || statements > 384
         {
-            return Err(Refusal {
-                reason: Reason::CountOutOfLimits,
-                place: 0,
-                item: 0,
-            });
+            return Err(Reason::CountOutOfLimits.into());
         }
         Ok(Counts {
             individuals: individuals as u16,

@@ -4,7 +4,7 @@ ghost use Rattle.rules.specs.Forms.{fields_of_form};
 ghost use Rattle.rules.specs.Limits.{most};
 
 /// What a name is declared as.
-#[derive(Clone, Copy)]
+#[derive(Clone, Copy, PartialEq, Eq)]
 pub enum Kind {
     Individual,
     Class,
@@ -25,7 +25,7 @@ impl Kind {
 }
 
 /// The kinds of a form's three fields, `None` for a field not in use.
-#[derive(Clone, Copy)]
+#[derive(Clone, Copy, PartialEq, Eq)]
 pub struct FieldKinds {
     pub first: Option<Kind>,
     pub second: Option<Kind>,

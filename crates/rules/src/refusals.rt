@@ -1,9 +1,9 @@
 // What a refused call answers.
 ghost use Rattle.std.specs.Prelude.{◌≡◌};
-ghost use Rattle.rules.specs.Refusals.{number_of, layer_of};
+ghost use Rattle.rules.specs.Refusals.{number_of, layer_of, refusal};
 
 /// Where a refusal arises.
-#[derive(Clone, Copy)]
+#[derive(Clone, Copy, PartialEq, Eq)]
 pub enum Layer {
     Line,
     Statement,
@@ -14,7 +14,7 @@ pub enum Layer {
 }
 
 /// Why a call is refused.
-#[derive(Clone, Copy)]
+#[derive(Clone, Copy, PartialEq, Eq)]
 pub enum Reason {
     /// A byte that no line may have, or a line of over 120 bytes.
     ImproperLine,
@@ -53,7 +53,7 @@ pub enum Reason {
 }
 
 /// A refusal: why, the line, part or place it is about, and the word or field there, which count from 1; 0 where there is none.
-#[derive(Clone, Copy)]
+#[derive(Clone, Copy, PartialEq, Eq)]
 pub struct Refusal {
     pub reason: Reason,
     pub place: usize,
@@ -108,5 +108,25 @@ impl Reason {
             Reason::StoreTooSmall => Layer::Store,
             Reason::OutputTooShort => Layer::Output,
         }
+    }
+
+    /// The refusal for this reason, about a word or field at a place.
+    pub fn at(self, place: usize, item: usize) -> Refusal
+        ensures { result ≡ refusal self place item }
+    {
+        Refusal {
+            reason: self,
+            place,
+            item,
+        }
+    }
+}
+
+impl From<Reason> for Refusal {
+    ghost from_gives = { λ r e. e ≡ refusal r 0 0 };
+
+    /// The refusal for a reason that is about no place.
+    fn from(reason: Reason) -> Refusal {
+        reason.at(0, 0)
     }
 }

@@ -3,7 +3,7 @@ ghost use Rattle.std.specs.Prelude.{◌≡◌};
 ghost use Rattle.rules.specs.Statements.{letter_of, fields_of, statement_of, ToldApart};
 
 /// A statement over the numbers of individuals, classes and roles, one variant for each form.
-#[derive(Clone, Copy)]
+#[derive(Clone, Copy, PartialEq, Eq)]
 pub enum Statement {
     /// a: the individual is in the class.
     Member {
@@ -99,7 +99,7 @@ pub enum Statement {
 }
 
 /// The three fields of a statement in order, 0 for one not in use.
-#[derive(Clone, Copy)]
+#[derive(Clone, Copy, PartialEq, Eq)]
 pub struct Fields {
     pub first: u16,
     pub second: u16,
