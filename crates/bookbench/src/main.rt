@@ -9,7 +9,7 @@ use reasoner::book::BookRules;
 use rules::base::RuleBase;
 use rules::forms::{Kind, field_kinds};
 use rules::statements::Statement;
-use slottable::{Slot, SlotTable};
+use slottable::SlotTable;
 use std::alloc::{AllocError, Global};
 use std::time::Instant;
 use wordtable::WordTable;
@@ -96,7 +96,7 @@ fn in_words(rules: &BookRules, words: &mut [u64], most: u64) -> Option<Marked> {
     }
 }
 
-fn in_slots(rules: &BookRules, slots: &mut [Slot], most: u64) -> Option<Marked> {
+fn in_slots(rules: &BookRules, slots: &mut [Option<u64>], most: u64) -> Option<Marked> {
     let mut table = SlotTable::over(slots);
     table.set_up(rules.bound());
     match mark(rules, &mut table, most) {
@@ -150,7 +150,7 @@ fn run_words(rt: &HostRuntime, plan: Plan, words: &mut [u64]) -> anyhow::Result<
     tell(rt, plan.name, "word table", marked, took.as_micros())
 }
 
-fn run_slots(rt: &HostRuntime, plan: Plan, slots: &mut [Slot]) -> anyhow::Result<()> {
+fn run_slots(rt: &HostRuntime, plan: Plan, slots: &mut [Option<u64>]) -> anyhow::Result<()> {
     let all = statements(rt.alloc(), plan)?;
     let Ok(counts) = RuleBase::check(
         plan.individuals as usize,
@@ -170,7 +170,7 @@ fn run_slots(rt: &HostRuntime, plan: Plan, slots: &mut [Slot]) -> anyhow::Result
 
 fn main(rt: HostRuntime) -> anyhow::Result<()> {
     let mut words = [0u64; 135000];
-    let mut slots = [Slot::Free; 262144];
+    let mut slots = [None::<u64>; 262144];
     let office = Plan {
         name: "office",
         individuals: 12,

@@ -4,7 +4,6 @@
 ghost use Rattle.std.specs.Prelude.{◌≤◌, length, IfOk};
 
 use ruletext::text_rules::Rules;
-use slottable::Slot;
 use std::io;
 use std::io::Read;
 use survey::report::tell;
@@ -31,7 +30,7 @@ fn main(rt: HostRuntime) -> io::Result<()> {
     let mut input = rt.stdin();
     let len = fill(&mut input, &mut buffer)?;
     let mut rules = Rules::new(rt.alloc())?;
-    let mut slots = [Slot::Free; 4096];
+    let mut slots = [None::<u64>; 4096];
     let survey = tell(&mut rules, &mut slots, &buffer[0..len]);
     println!(rt; "{survey}")
 }

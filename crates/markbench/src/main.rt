@@ -6,7 +6,7 @@
 use edges::{Edge, Graph};
 use marks::mark::{LimitTooLow, Marked, mark};
 use marks::store::MarkStore;
-use slottable::{Slot, SlotTable};
+use slottable::SlotTable;
 use std::alloc::{AllocError, Global};
 use std::time::Instant;
 use wordtable::WordTable;
@@ -46,7 +46,7 @@ fn trial(
     rt: &HostRuntime,
     length: u64,
     words: &mut [u64],
-    slots: &mut [Slot],
+    slots: &mut [Option<u64>],
 ) -> anyhow::Result<()> {
     let edges = chain(rt.alloc(), length)?;
     let graph = Graph {
@@ -66,7 +66,7 @@ fn trial(
 
 fn main(rt: HostRuntime) -> anyhow::Result<()> {
     let mut words = [0u64; 3126];
-    let mut slots = [Slot::Free; 262144];
+    let mut slots = [None::<u64>; 262144];
     trial(&rt, 100000, &mut words, &mut slots)?;
     trial(&rt, 200000, &mut words, &mut slots)
 }

@@ -3,14 +3,13 @@
 
 mod refused;
 
-ghost use Rattle.std.specs.Prelude.{◌≡◌, ◌<◌, length, MatchResult};
+ghost use Rattle.std.specs.Prelude.{◌≡◌, ◌<◌, length, MatchResult, None};
 ghost use Rattle.marks.specs.Marking.{Marking};
 ghost use Rattle.marks.specs.Rows.{Filled};
 ghost use Rattle.marks.specs.Sets.{capped, empty};
 ghost use Rattle.marks.specs.Trees.{Grounded};
 ghost use Rattle.wordtable.specs.Bits.{bit};
 ghost use Rattle.slottable.specs.Table.{slotted};
-ghost use Rattle.slottable.specs.declared.slot.Slot.TheVariants.{Free};
 ghost use Rattle.edges.specs.Reaches.{By};
 ghost use Rattle.markdemo.specs.Refusals.{Means};
 ghost use Rattle.markdemo.specs.declared.refused.Refused.TheVariants.{LimitTooLow};
@@ -19,7 +18,7 @@ use edges::{Edge, Graph};
 use marks::mark::{Marked, State, mark};
 use marks::store::{MarkStore, Put};
 use refused::Refused;
-use slottable::{Slot, SlotTable};
+use slottable::SlotTable;
 use std::io;
 use wordtable::WordTable;
 
@@ -77,7 +76,7 @@ fn put_trials(rt: &HostRuntime) -> io::Result<()> {
         }
     )?;
     put_all(rt, &mut table)?;
-    let mut slots = [Slot::Holds(3); 4];
+    let mut slots = [Some(3); 4];
     let mut table = SlotTable::over(&mut slots);
     table.set_up(100);
     println!(rt; "four slots, limit 100")?;
@@ -99,8 +98,13 @@ fn in_words(graph: &Graph, words: &mut [u64], limit: u64, most: u64) -> Result<M
 }
 
 // Marks what the graph reaches in slots that are freed first.
-fn in_slots(graph: &Graph, slots: &mut [Slot], limit: u64, most: u64) -> Result<Marked, Refused>
-    ensures { MatchResult result (λ m. Marking (Grounded (By graph.now.edges.now graph.now.start graph.now.bound)) empty (capped (slotted slots.new) limit) limit (length slots.old) most m.added m.state) (λ e. (e ≡ LimitTooLow) × (limit < graph.now.bound) × Filled Free slots.old slots.new) }
+fn in_slots(
+    graph: &Graph,
+    slots: &mut [Option<u64>],
+    limit: u64,
+    most: u64,
+) -> Result<Marked, Refused>
+    ensures { MatchResult result (λ m. Marking (Grounded (By graph.now.edges.now graph.now.start graph.now.bound)) empty (capped (slotted slots.new) limit) limit (length slots.old) most m.added m.state) (λ e. (e ≡ LimitTooLow) × (limit < graph.now.bound) × Filled None slots.old slots.new) }
 {
     let mut table = SlotTable::over(slots);
     table.set_up(limit);
@@ -159,7 +163,7 @@ fn mark_trials(rt: &HostRuntime, graph: &Graph) -> io::Result<()> {
         "no words, limit 100, most 50",
         in_words(graph, &mut [], 100, 50),
     )?;
-    let mut slots = [Slot::Holds(9); 4];
+    let mut slots = [Some(9); 4];
     show(
         rt,
         "four slots, limit 1000, most 50",
@@ -175,7 +179,7 @@ fn mark_trials(rt: &HostRuntime, graph: &Graph) -> io::Result<()> {
         "four slots, limit 99, most 50",
         in_slots(graph, &mut slots, 99, 50),
     )?;
-    let mut slots = [Slot::Free; 3];
+    let mut slots = [None::<u64>; 3];
     show(
         rt,
         "three slots, limit 100, most 50",
@@ -223,7 +227,7 @@ fn main(rt: HostRuntime) -> io::Result<()> {
     };
     put_trials(&rt)?;
     mark_trials(&rt, &graph)?;
-    let mut slots = [Slot::Free; 5];
+    let mut slots = [None::<u64>; 5];
     let mut table = SlotTable::over(&mut slots);
     table.set_up(100);
     println!(rt; "five slots, one at a time")?;

@@ -6,7 +6,6 @@ use Rattle.rules.specs.Formed.{Accepted, accepted_unrefused, accepted_kept}
 use Rattle.rules.specs.declared.refusals.Refusal.{Refusal}
 use Rattle.rules.specs.declared.statements.Statement.{Statement}
 use Rattle.reader.specs.declared.reader.Word.{Word}
-use Rattle.slottable.specs.declared.slot.Slot.{Slot}
 use Rattle.ruletext.specs.Outcome.{Contents, nothing, by_text}
 use Rattle.ruletext.specs.Reading.{spelt}
 use Rattle.ruletext.specs.Verdicts.{Judged, Told, verdict, left_by}
@@ -29,7 +28,7 @@ module _ (n k r : ℕ) (ss us : List Statement) (ue : us ≡ ss) (n1 k1 r1 : ℕ
 
   pub from_counts : base_refusal n1 k1 r1 us ≡ None → (n2 k2 r2 m : ℕ) → n2 ≡ n1 → k2 ≡ k1 → r2 ≡ r1 → m ≡ length us
       → (n3 k3 r3 : ℕ) (ts : List Statement) → n3 ≡ n2 → k3 ≡ k2 → r3 ≡ r2 → ts ≡ if_passed (pass n2 k2 r2 m us) us
-      → (before slots : List Slot) (o : Option ℕ) → FactsCounted n3 k3 r3 ts before slots o → FactsCounted n k r ss before slots o
+      → (before slots : List (Option ℕ)) (o : Option ℕ) → FactsCounted n3 k3 r3 ts before slots o → FactsCounted n k r ss before slots o
   from_counts h n2 k2 r2 m n2e k2e r2e me n3 k3 r3 ts n3e k3e r3e te before slots o f =
       let same : ts ≡ ss = te ∙ accepted_kept n1 k1 r1 n2 k2 r2 m us h n2e k2e r2e me ∙ ue in
       let a : n3 ≡ n = n3e ∙ n2e ∙ n1e in

@@ -1,10 +1,9 @@
 -- What the program tells of an input, and the line that it prints. An input is judged as a rule text. Of a text that is
 -- accepted it tells the counts and how many facts follow from the statements, or only `full` if the slots are too few;
 -- of any other the fault.
-use Rattle.std.specs.Prelude.{◌≡◌, ℕ, List, ◌++◌, length, Some, None, Ok, Err, codes, decimal}
+use Rattle.std.specs.Prelude.{◌≡◌, ℕ, List, ◌++◌, length, Some, None, Ok, Err, codes, decimal, Option}
 use Rattle.rules.specs.Formed.{Accepted}
 use Rattle.rules.specs.Refusals.{number_of}
-use Rattle.slottable.specs.declared.slot.Slot.{Slot}
 use Rattle.ruletext.specs.Outcome.{Contents, nothing}
 use Rattle.ruletext.specs.Verdicts.{Judged}
 use Rattle.survey.specs.declared.report.Survey.{Survey}
@@ -16,7 +15,7 @@ abbrev pub Fitting : Contents → Type 0
 Fitting s = Accepted (length s.individuals) (length s.classes) (length s.roles) s.statements
 
 -- What is told, by what was read (after) and by the slots before and afterwards.
-abbrev pub Surveyed : List ℕ → (before slots : List Slot) → Contents → Survey → Type 0
+abbrev pub Surveyed : List ℕ → (before slots : List (Option ℕ)) → Contents → Survey → Type 0
 -- the counts, and so many facts
 Surveyed input before slots after (told.Read individuals classes roles statements facts) =
     Judged input (Ok after) × (individuals ≡ length after.individuals) × (classes ≡ length after.classes) ×

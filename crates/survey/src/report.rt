@@ -10,7 +10,6 @@ use rules::base::RuleBase;
 use rules::refusals::Refusal;
 use ruletext::text_rules::Rules;
 use ruletext::verdict::{Verdict, judge};
-use slottable::Slot;
 use std::fmt;
 
 /// What is told of an input.
@@ -28,7 +27,7 @@ pub enum Survey {
 }
 
 // How many facts follow from the statements that were read.
-fn facts_of(rules: &Rules<'_>, slots: &mut [Slot]) -> Option<u64>
+fn facts_of(rules: &Rules<'_>, slots: &mut [Option<u64>]) -> Option<u64>
     requires { Fitting (contents rules.now) }
     ensures { FactsOf (contents rules.now) slots.old slots.new result }
 {
@@ -46,7 +45,7 @@ fn facts_of(rules: &Rules<'_>, slots: &mut [Slot]) -> Option<u64>
 
 /// Tells of an input of at most 16,384 bytes, with the memory of `rules` and of the slots: the fault of its rule text, or its
 /// counts and how many facts follow, or that the slots are too few for them.
-pub fn tell<'a>(rules: &mut Rules<'a>, slots: &mut [Slot], input: &'a [u8]) -> Survey
+pub fn tell<'a>(rules: &mut Rules<'a>, slots: &mut [Option<u64>], input: &'a [u8]) -> Survey
     ensures { Surveyed input.now slots.old slots.new (contents rules.new) result }
 {
     match judge(rules, input) {

@@ -4,7 +4,6 @@
 ghost use Rattle.std.specs.Prelude.{◌≤◌, length};
 
 use ruletext::text_rules::Rules;
-use slottable::Slot;
 use std::io;
 use std::io::Read;
 use survey::report::tell;
@@ -21,7 +20,7 @@ fn end_of_text(input: &[u8]) -> usize
     input.len()
 }
 
-fn tell_each(rt: &HostRuntime, slots: &mut [Slot], input: &[u8]) -> io::Result<()> {
+fn tell_each(rt: &HostRuntime, slots: &mut [Option<u64>], input: &[u8]) -> io::Result<()> {
     let mut rules = Rules::new(rt.alloc())?;
     let mut rest = input;
     for number in 1..1000 {
@@ -39,6 +38,6 @@ fn tell_each(rt: &HostRuntime, slots: &mut [Slot], input: &[u8]) -> io::Result<(
 fn main(rt: HostRuntime) -> io::Result<()> {
     let mut input = Vec::new(rt.alloc());
     rt.stdin().read_to_end(&mut input)?;
-    let mut slots = [Slot::Free; 4096];
+    let mut slots = [None::<u64>; 4096];
     tell_each(&rt, &mut slots, &input)
 }
