@@ -1,56 +1,17 @@
 -- From the fact and the ground of a line back to its given, one line for each line of the table.
-use mathlib.Core.Path.{◌≡◌, refl, ap, ◌∙◌}
-use mathlib.Core.Bool.{cond}
-use Prim.Native.Nat.{ℕ, ◌+◌, ◌-◌, ◌≤◌}
-use native.Mathlib.Omega.{arith}
-use native.Mathlib.Decide.{dec_lt}
-use borrow.Author.Tests.{lt-ltb, le-ltb}
+use mathlib.Core.Path.{◌≡◌, refl, ap}
+use Prim.Native.Nat.{ℕ}
 use Rattle.rules.specs.declared.statements.Statement.{Statement}
 use Rattle.rules.specs.declared.statements.Statement.TheVariants.{Member, Related, Empty, Universal, Only, Nominal, Subclass, Both, Reaches, Requires, SelfWithin, SelfPaired, Subrole, Chain, RoleBoth, Product, DomainRange}
-use Rattle.calculus.specs.Terms.{first_number, second_number}
-use Rattle.calculus.specs.Numbers.{FirstInside, SecondInside, Inside}
+use Rattle.calculus.specs.Numbers.{Inside}
 use Rattle.calculus.specs.declared.terms.First.{First}
-use Rattle.calculus.specs.declared.terms.First.TheVariants as first
-use Rattle.calculus.specs.declared.terms.Second.{Second}
-use Rattle.calculus.specs.declared.terms.Second.TheVariants as second
 use Rattle.calculus.specs.declared.terms.Fact.{Fact}
 use Rattle.calculus.specs.declared.terms.Fact.TheVariants.{Instance, Pair}
 use Rattle.linetable.specs.Table.{key, lines, fill, finish, witness, Among, only, two_1, two_2, four_1, four_2, four_3, four_4, Fits, anyone, member, own, pair}
 use Rattle.linetable.specs.declared.shapes.Key.{Key}
 use Rattle.linetable.specs.declared.shapes.Line.{Line}
-use Rattle.grounds.specs.Given.{term_of, second_of, given_of}
-
-pub term_of_first : (n : ℕ) (x : First) → FirstInside n x → term_of n (first_number n x) ≡ x
-term_of_first n (first.Individual x) h = ap (λ b. cond b (first.Individual x) (first.Witness (x - n))) (lt-ltb x n h)
-term_of_first n (first.Witness p) h =
-    let e : n + p - n ≡ p = omega arith in
-    let l : n ≤ n + p = omega arith in
-    ap (λ b. cond b (first.Individual (n + p)) (first.Witness (n + p - n))) (le-ltb (n + p) n l) ∙ ap first.Witness e
-
-pub second_of_second : (n k : ℕ) (y : Second) → SecondInside n k y → second_of n (second_number n y) ≡ y
-second_of_second n k (second.Individual x) h = ap (λ b. cond b (second.Individual x) (second.Class (x - n))) (lt-ltb x n h)
-second_of_second n k (second.Class C) h =
-    let e : n + C - n ≡ C = omega arith in
-    let l : n ≤ n + C = omega arith in
-    ap (λ b. cond b (second.Individual (n + C)) (second.Class (n + C - n))) (le-ltb (n + C) n l) ∙ ap second.Class e
-
-pub first_term_of : (n t : ℕ) → first_number n (term_of n t) ≡ t
-first_term_of n t = elim (dec_lt t n) [
-  | yes h ↦ ap (λ b. first_number n (cond b (first.Individual t) (first.Witness (t - n)))) (lt-ltb t n h)
-  | no h ↦
-      let l : n ≤ t = omega arith in
-      let e : n + (t - n) ≡ t = omega arith in
-      ap (λ b. first_number n (cond b (first.Individual t) (first.Witness (t - n)))) (le-ltb t n l) ∙ e
-]
-
-pub second_second_of : (n t : ℕ) → second_number n (second_of n t) ≡ t
-second_second_of n t = elim (dec_lt t n) [
-  | yes h ↦ ap (λ b. second_number n (cond b (second.Individual t) (second.Class (t - n)))) (lt-ltb t n h)
-  | no h ↦
-      let l : n ≤ t = omega arith in
-      let e : n + (t - n) ≡ t = omega arith in
-      ap (λ b. second_number n (cond b (second.Individual t) (second.Class (t - n)))) (le-ltb t n l) ∙ e
-]
+use Rattle.calculus.specs.TermNumbers.{first_at_its_number, second_at_its_number}
+use Rattle.grounds.specs.Given.{given_of}
 
 -- that is the given, and the term looped over is the fact's finish
 pub record Back (n : ℕ) (on : Key) (l : Line) (g : Fact) (z : First) (f : Fact) : Type 0 where
@@ -61,22 +22,22 @@ pub record Back (n : ℕ) (on : Key) (l : Line) (g : Fact) (z : First) (f : Fact
 pub back : (n k r : ℕ) (s : Statement) (p : ℕ) {l : Line} {g : Fact} (z : First) → Among l (lines p s) → Fits (key s) l.pair g → Inside n k r g → Back n (key s) l g z (fill g z l.conclusion)
 back n k r (Member y C) p z only member i = record { given = refl; second = refl; conclusion = refl }
 back n k r (Related y R o) p z two_1 member i = record { given = refl; second = refl; conclusion = refl }
-back n k r (Related y R o) p z two_2 (member {x = x} {y = c}) i = record { given = ap (λ t. Instance t c) (term_of_first n x i.0); second = refl; conclusion = refl }
+back n k r (Related y R o) p z two_2 (member {x = x} {y = c}) i = record { given = ap (λ t. Instance t c) (first_at_its_number n x i.0); second = refl; conclusion = refl }
 back n k r (Empty A) p z a f i = elim a [ ]
-back n k r (Universal C) p z only (anyone {x = x} {y = y}) i = record { given = ap (λ t. Instance x t) (second_of_second n k y i.1); second = refl; conclusion = refl }
+back n k r (Universal C) p z only (anyone {x = x} {y = y}) i = record { given = ap (λ t. Instance x t) (second_at_its_number n k y i.1); second = refl; conclusion = refl }
 back n k r (Only A y) p z only member i = record { given = refl; second = refl; conclusion = refl }
 back n k r (Nominal y C) p z only member i = record { given = refl; second = refl; conclusion = refl }
 back n k r (Subclass A C) p z only member i = record { given = refl; second = refl; conclusion = refl }
 back n k r (Both A B C) p z only member i = record { given = refl; second = refl; conclusion = refl }
-back n k r (Reaches R A C) p z two_1 (pair {x = x} {v = v}) i = record { given = ap (λ t. Pair x R t) (term_of_first n v i.2); second = refl; conclusion = refl }
+back n k r (Reaches R A C) p z two_1 (pair {x = x} {v = v}) i = record { given = ap (λ t. Pair x R t) (first_at_its_number n v i.2); second = refl; conclusion = refl }
 back n k r (Reaches R A C) p z two_2 own i = record { given = refl; second = refl; conclusion = refl }
 back n k r (Requires A R B) p z two_1 member i = record { given = refl; second = refl; conclusion = refl }
-back n k r (Requires A R B) p z two_2 (member {x = x} {y = c}) i = record { given = ap (λ t. Instance t c) (term_of_first n x i.0); second = refl; conclusion = refl }
+back n k r (Requires A R B) p z two_2 (member {x = x} {y = c}) i = record { given = ap (λ t. Instance t c) (first_at_its_number n x i.0); second = refl; conclusion = refl }
 back n k r (SelfWithin R C) p z only own i = record { given = refl; second = refl; conclusion = refl }
 back n k r (SelfPaired A R) p z only member i = record { given = refl; second = refl; conclusion = refl }
 back n k r (Subrole R Q) p z two_1 pair i = record { given = refl; second = refl; conclusion = refl }
 back n k r (Subrole R Q) p z two_2 own i = record { given = refl; second = refl; conclusion = refl }
-back n k r (Chain R S Q) p z four_1 (pair {x = x} {v = v}) i = record { given = ap (λ t. Pair x R t) (term_of_first n v i.2); second = refl; conclusion = refl }
+back n k r (Chain R S Q) p z four_1 (pair {x = x} {v = v}) i = record { given = ap (λ t. Pair x R t) (first_at_its_number n v i.2); second = refl; conclusion = refl }
 back n k r (Chain R S Q) p z four_2 own i = record { given = refl; second = refl; conclusion = refl }
 back n k r (Chain R S Q) p z four_3 pair i = record { given = refl; second = refl; conclusion = refl }
 back n k r (Chain R S Q) p z four_4 own i = record { given = refl; second = refl; conclusion = refl }
@@ -84,7 +45,7 @@ back n k r (RoleBoth R S Q) p z two_1 pair i = record { given = refl; second = r
 back n k r (RoleBoth R S Q) p z two_2 own i = record { given = refl; second = refl; conclusion = refl }
 back n k r (Product A B R) p z two_1 member i = record { given = refl; second = refl; conclusion = refl }
 back n k r (Product A B R) p z two_2 member i = record { given = refl; second = refl; conclusion = refl }
-back n k r (DomainRange R C D) p z four_1 (pair {x = x} {v = v}) i = record { given = ap (λ t. Pair x R t) (term_of_first n v i.2); second = refl; conclusion = refl }
+back n k r (DomainRange R C D) p z four_1 (pair {x = x} {v = v}) i = record { given = ap (λ t. Pair x R t) (first_at_its_number n v i.2); second = refl; conclusion = refl }
 back n k r (DomainRange R C D) p z four_2 own i = record { given = refl; second = refl; conclusion = refl }
-back n k r (DomainRange R C D) p z four_3 (pair {x = x} {v = v}) i = record { given = ap (λ t. Pair t R v) (term_of_first n x i.0); second = refl; conclusion = refl }
+back n k r (DomainRange R C D) p z four_3 (pair {x = x} {v = v}) i = record { given = ap (λ t. Pair t R v) (first_at_its_number n x i.0); second = refl; conclusion = refl }
 back n k r (DomainRange R C D) p z four_4 own i = record { given = refl; second = refl; conclusion = refl }

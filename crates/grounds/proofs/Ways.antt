@@ -13,7 +13,7 @@ use Rattle.rules.specs.declared.statements.Statement.{Statement}
 use Rattle.rules.specs.declared.statements.Statement.TheVariants.{Member, Related, Empty, Universal, Only, Nominal, Subclass, Both, Reaches, Requires, SelfWithin, SelfPaired, Subrole, Chain, RoleBoth, Product, DomainRange}
 use Rattle.calculus.specs.Trees.{All, all_more}
 use Rattle.calculus.specs.Tests.{Decides}
-use Rattle.calculus.specs.Terms.{first_number, ground_of, by_rule}
+use Rattle.calculus.specs.Terms.{first_number, first_at, second_at, ground_of, by_rule}
 use Rattle.calculus.specs.Steps.{rule_1, rule_2, rule_4, rule_27, rule_28, rule_29}
 use Rattle.calculus.specs.Numbers.{FirstInside, Inside}
 use Rattle.calculus.proofs.Contained.{step_inside}
@@ -28,9 +28,10 @@ use Rattle.linetable.specs.Lines.{Way, by_line, alone, looped, clash, there_to, 
 use Rattle.linetable.specs.declared.shapes.Key.{Key}
 use Rattle.linetable.specs.declared.shapes.Line.{Line}
 use Rattle.linetable.specs.declared.shapes.Said.TheVariants.{Nothing}
-use Rattle.grounds.specs.Given.{Held, GivesHeld, term_of, second_of, given_for, LineGives, SaidGives}
+use Rattle.grounds.specs.Given.{Held, GivesHeld, given_for, LineGives, SaidGives}
 use Rattle.grounds.specs.Rules.{ByRule1, ByRule2, ByRule4, ByRule27, ByRule28, ByRule29, Unplaced, Placed}
-use Rattle.grounds.proofs.Back.{term_of_first, second_of_second, first_term_of, second_second_of, back}
+use Rattle.calculus.specs.TermNumbers.{first_at_its_number, second_at_its_number, first_number_at, second_number_at}
+use Rattle.grounds.proofs.Back.{back}
 
 module _ (n k r : ℕ) (ss : List Statement) (held : ℕ → Bool) where
   abbrev H : Fact → Type 0
@@ -57,8 +58,8 @@ module _ (n k r : ℕ) (ss : List Statement) (held : ℕ → Bool) where
 
   rule_27_gives : (f : Fact) (w : Ground) → ByRule27 n k r held f w → G w f
   rule_27_gives (Instance (first.Individual x) z) w h =
-      subst (λ o. G o (Instance (first.Individual x) z)) (ap (by_rule 27) (first_term_of n w.u) ∙ sym h.3)
-      (record { premises = _; step = rule_27 {x = x} {u = term_of n w.u} {z = z} h.0; given = (h.1, (h.2, tt)) })
+      subst (λ o. G o (Instance (first.Individual x) z)) (ap (by_rule 27) (first_number_at n w.u) ∙ sym h.3)
+      (record { premises = _; step = rule_27 {x = x} {u = first_at n w.u} {z = z} h.0; given = (h.1, (h.2, tt)) })
   rule_27_gives (Instance (first.Witness p) z) w h = absurd h
   rule_27_gives (SelfPair x v) w h = absurd h
   rule_27_gives (Pair x v y) w h = absurd h
@@ -73,14 +74,14 @@ module _ (n k r : ℕ) (ss : List Statement) (held : ℕ → Bool) where
   rule_29_gives (Instance x z) w h = absurd h
   rule_29_gives (SelfPair x v) w h = absurd h
   rule_29_gives (Pair x v (first.Individual y)) w h =
-      subst (λ o. G o (Pair x v (first.Individual y))) (ap (by_rule 29) (first_term_of n w.u) ∙ sym h.3)
-      (record { premises = _; step = rule_29 {y = y} {R = v} {x = x} {u = term_of n w.u} h.0; given = (h.1, (h.2, tt)) })
+      subst (λ o. G o (Pair x v (first.Individual y))) (ap (by_rule 29) (first_number_at n w.u) ∙ sym h.3)
+      (record { premises = _; step = rule_29 {y = y} {R = v} {x = x} {u = first_at n w.u} h.0; given = (h.1, (h.2, tt)) })
   rule_29_gives (Pair x v (first.Witness p)) w h = absurd h
 
   rule_4_gives : (f : Fact) (w : Ground) (p A : ℕ) → At ss p (Empty A) → ByRule4 n k r p A held f w → G w f
   rule_4_gives (Instance x (second.Class C)) w p A at h =
-      subst (λ o. G o (Instance x (second.Class C))) (ap₂ (λ s t. ground_of 4 (p + 1) s t) (first_term_of n w.u) (second_second_of n w.w) ∙ sym h.3)
-      (record { premises = _; step = rule_4 {p = p} {A = A} {C = C} {u = term_of n w.u} {x = x} {w = second_of n w.w} at h.0; given = (h.1, (h.2, tt)) })
+      subst (λ o. G o (Instance x (second.Class C))) (ap₂ (λ s t. ground_of 4 (p + 1) s t) (first_number_at n w.u) (second_number_at n w.w) ∙ sym h.3)
+      (record { premises = _; step = rule_4 {p = p} {A = A} {C = C} {u = first_at n w.u} {x = x} {w = second_at n w.w} at h.0; given = (h.1, (h.2, tt)) })
   rule_4_gives (Instance x (second.Individual y)) w p A at h = absurd h
   rule_4_gives (SelfPair x v) w p A at h = absurd h
   rule_4_gives (Pair x v y) w p A at h = absurd h
@@ -177,8 +178,8 @@ module _ (n k r : ℕ) (ss : List Statement) (held : ℕ → Bool) where
   way : (f : Fact) (w : Ground) → G w f → W f w
   way f w g = complete n k ss H (FirstInside n) starts ends g.step g.given
 
-  at_term : (P : First → Fact) (x : First) → FirstInside n x → H (P x) → H (P (term_of n (first_number n x)))
-  at_term P x i h = subst (λ t. H (P t)) (sym (term_of_first n x i)) h
+  at_term : (P : First → Fact) (x : First) → FirstInside n x → H (P x) → H (P (first_at n (first_number n x)))
+  at_term P x i h = subst (λ t. H (P t)) (sym (first_at_its_number n x i)) h
 
   way_unplaced : {f : Fact} {w : Ground} → W f w → w.place ≡ 0 → Unplaced n k r held f w
   way_unplaced (by_line {p = p} z at i f zi m d) e = absurd (omega arith)
@@ -220,7 +221,7 @@ module _ (n k r : ℕ) (ss : List Statement) (held : ℕ → Bool) where
     statement = Empty A;
     at = at;
     is = refl;
-    gives = (l, at_term (λ t. Instance t (second.Class A)) u mu.inside.0 mu, subst (λ t. H (Instance x t)) (sym (second_of_second n k w mx.inside.1)) mx, refl);
+    gives = (l, at_term (λ t. Instance t (second.Class A)) u mu.inside.0 mu, subst (λ t. H (Instance x t)) (sym (second_at_its_number n k w mx.inside.1)) mx, refl);
   }
   way_stated (there_to l m d) e ins = absurd (e refl)
   way_stated (back_from l m d) e ins = absurd (e refl)

@@ -1,14 +1,12 @@
 -- A ground by the table of lines. From a fact and the witness u of a ground one finds the given that a line would have gone
 -- from; then the line gives the fact by that ground if the given fits, it and the second fact are held, and the line's
 -- conclusion and ground are the fact and the ground in question.
-use Rattle.std.specs.Prelude.{◌≡◌, Bool, true, false, cond, List, ℕ, ◌-◌, ltb}
+use Rattle.std.specs.Prelude.{◌≡◌, Bool, true, false, List, ℕ}
 use Rattle.rules.specs.declared.statements.Statement.{Statement}
 use Rattle.calculus.specs.Steps.{Gives}
+use Rattle.calculus.specs.Terms.{first_at, second_at}
 use Rattle.calculus.specs.Numbers.{fact_number, Inside}
 use Rattle.calculus.specs.declared.terms.First.{First}
-use Rattle.calculus.specs.declared.terms.First.TheVariants as first
-use Rattle.calculus.specs.declared.terms.Second.{Second}
-use Rattle.calculus.specs.declared.terms.Second.TheVariants as second
 use Rattle.calculus.specs.declared.terms.Ground.{Ground}
 use Rattle.calculus.specs.declared.terms.Fact.{Fact}
 use Rattle.calculus.specs.declared.terms.Fact.TheVariants.{Instance, SelfPair, Pair}
@@ -29,30 +27,23 @@ pub record Held (n k r : ℕ) (held : ℕ → Bool) (f : Fact) : Type 0 where
 abbrev pub GivesHeld : (n k r : ℕ) → List Statement → (ℕ → Bool) → Ground → Fact → Type 0
 GivesHeld n k r ss held why f = Gives n k ss (Held n k r held) why f
 
--- The first term with a number, and the second.
-abbrev pub term_of : ℕ → ℕ → First
-term_of n t = cond (ltb t n) (first.Individual t) (first.Witness (t - n))
-
-abbrev pub second_of : ℕ → ℕ → Second
-second_of n t = cond (ltb t n) (second.Individual t) (second.Class (t - n))
-
 -- The given's start and finish: those of the fact, or the witness where the line tells it.
 abbrev pub start_told : ℕ → Told → Fact → ℕ → First
 start_told n Untold f u = start f
-start_told n TellStart f u = term_of n u
+start_told n TellStart f u = first_at n u
 start_told n TellFinish f u = start f
 start_told n TellSecond f u = start f
 
 abbrev pub finish_told : ℕ → Told → Fact → ℕ → First
 finish_told n Untold f u = finish f
 finish_told n TellStart f u = finish f
-finish_told n TellFinish f u = term_of n u
+finish_told n TellFinish f u = first_at n u
 finish_told n TellSecond f u = finish f
 
 -- The given from which a line with that key leads to f, u being told.
 abbrev pub given_of : ℕ → Key → Bool → Told → Fact → ℕ → Fact
 given_of n Never pair t f u = f
-given_of n Anyone pair t f u = Instance (start_told n t f u) (second_of n u)
+given_of n Anyone pair t f u = Instance (start_told n t f u) (second_at n u)
 given_of n (Of c) pair t f u = Instance (start_told n t f u) c
 given_of n (Role R) true t f u = Pair (start_told n t f u) R (finish_told n t f u)
 given_of n (Role R) false t f u = SelfPair (start_told n t f u) R

@@ -3,14 +3,14 @@
 use Rattle.std.specs.Prelude.{◌≡◌, Bool, ◌⊎◌, ℕ, ◌+◌, ◌<◌}
 use Rattle.rules.specs.declared.statements.Statement.{Statement}
 use Rattle.rules.specs.declared.statements.Statement.TheVariants.{Member, Related, Empty, Universal, Only, Nominal, Subclass, Both, Reaches, Requires, SelfWithin, SelfPaired, Subrole, Chain, RoleBoth, Product, DomainRange}
-use Rattle.calculus.specs.Terms.{ground_of, by_rule}
+use Rattle.calculus.specs.Terms.{first_at, second_at, ground_of, by_rule}
 use Rattle.calculus.specs.declared.terms.First.TheVariants as first
 use Rattle.calculus.specs.declared.terms.Second.TheVariants as second
 use Rattle.calculus.specs.declared.terms.Ground.{Ground}
 use Rattle.calculus.specs.declared.terms.Fact.{Fact}
 use Rattle.calculus.specs.declared.terms.Fact.TheVariants.{Instance, SelfPair, Pair}
 use Rattle.linetable.specs.Table.{key, lines}
-use Rattle.grounds.specs.Given.{Held, term_of, second_of, SaidGives}
+use Rattle.grounds.specs.Given.{Held, SaidGives}
 
 -- 1: f is I(x,x).
 abbrev pub ByRule1 : ℕ → Fact → Ground → Type 0
@@ -29,7 +29,7 @@ ByRule2 n k r held (Pair x v y) w = ⊥
 
 -- 27: f is I(x,z), and I(u,x) and I(u,z) are held.
 abbrev pub ByRule27 : (n k r : ℕ) → (ℕ → Bool) → Fact → Ground → Type 0
-ByRule27 n k r held (Instance (first.Individual x) z) w = (x < n) × Held n k r held (Instance (term_of n w.u) (second.Individual x)) × Held n k r held (Instance (term_of n w.u) z) × (w ≡ by_rule 27 w.u)
+ByRule27 n k r held (Instance (first.Individual x) z) w = (x < n) × Held n k r held (Instance (first_at n w.u) (second.Individual x)) × Held n k r held (Instance (first_at n w.u) z) × (w ≡ by_rule 27 w.u)
 ByRule27 n k r held (Instance (first.Witness p) z) w = ⊥
 ByRule27 n k r held (SelfPair x v) w = ⊥
 ByRule27 n k r held (Pair x v y) w = ⊥
@@ -44,12 +44,12 @@ ByRule28 n k r held (Pair x v y) w = ⊥
 abbrev pub ByRule29 : (n k r : ℕ) → (ℕ → Bool) → Fact → Ground → Type 0
 ByRule29 n k r held (Instance x z) w = ⊥
 ByRule29 n k r held (SelfPair x v) w = ⊥
-ByRule29 n k r held (Pair x v (first.Individual y)) w = (y < n) × Held n k r held (Pair x v (term_of n w.u)) × Held n k r held (Instance (term_of n w.u) (second.Individual y)) × (w ≡ by_rule 29 w.u)
+ByRule29 n k r held (Pair x v (first.Individual y)) w = (y < n) × Held n k r held (Pair x v (first_at n w.u)) × Held n k r held (Instance (first_at n w.u) (second.Individual y)) × (w ≡ by_rule 29 w.u)
 ByRule29 n k r held (Pair x v (first.Witness p)) w = ⊥
 
 -- 4: with c[A] at the place p, f is I(x,C), and I(u,A) and I(x,w) are held.
 abbrev pub ByRule4 : (n k r p A : ℕ) → (ℕ → Bool) → Fact → Ground → Type 0
-ByRule4 n k r p A held (Instance x (second.Class C)) w = (C < k) × Held n k r held (Instance (term_of n w.u) (second.Class A)) × Held n k r held (Instance x (second_of n w.w)) × (w ≡ ground_of 4 (p + 1) w.u w.w)
+ByRule4 n k r p A held (Instance x (second.Class C)) w = (C < k) × Held n k r held (Instance (first_at n w.u) (second.Class A)) × Held n k r held (Instance x (second_at n w.w)) × (w ≡ ground_of 4 (p + 1) w.u w.w)
 ByRule4 n k r p A held (Instance x (second.Individual y)) w = ⊥
 ByRule4 n k r p A held (SelfPair x v) w = ⊥
 ByRule4 n k r p A held (Pair x v y) w = ⊥

@@ -4,41 +4,22 @@ ghost use Rattle.calculus.specs.Terms.{by_rule};
 ghost use Rattle.calculus.specs.Tests.{Decides};
 ghost use Rattle.calculus.specs.Numbers.{Inside};
 ghost use Rattle.linetable.specs.Table.{witness};
-ghost use Rattle.grounds.specs.Given.{Held, term_of, second_of, start_told, finish_told, given_of};
+ghost use Rattle.grounds.specs.Given.{Held, start_told, finish_told, given_of};
 
-use calculus::numbers::{first_number, number_of, second_number};
+use calculus::numbers::number_of;
+use calculus::term::Term;
 use calculus::terms::{Fact, First, Ground, Second};
 use linetable::shapes::{Key, Told};
 use linetable::table::{finish_of, start_of};
 use marks::store::MarkStore;
 use rules::counts::Counts;
 
-pub(crate) fn term_of(counts: Counts, t: u16) -> First
-    ensures { result ≡ term_of counts.individuals t }
-{
-    if t < counts.individuals {
-        First::Individual(t)
-    } else {
-        First::Witness(t - counts.individuals)
-    }
-}
-
-pub(crate) fn second_of(counts: Counts, t: u16) -> Second
-    ensures { result ≡ second_of counts.individuals t }
-{
-    if t < counts.individuals {
-        Second::Individual(t)
-    } else {
-        Second::Class(t - counts.individuals)
-    }
-}
-
 fn start_told(counts: Counts, told: Told, f: Fact, u: u16) -> First
     ensures { result ≡ start_told counts.individuals told f u }
 {
     match told {
         Told::Untold => start_of(f),
-        Told::TellStart => term_of(counts, u),
+        Told::TellStart => First::at(counts, u),
         Told::TellFinish => start_of(f),
         Told::TellSecond => start_of(f),
     }
@@ -50,7 +31,7 @@ fn finish_told(counts: Counts, told: Told, f: Fact, u: u16) -> First
     match told {
         Told::Untold => finish_of(f),
         Told::TellStart => finish_of(f),
-        Told::TellFinish => term_of(counts, u),
+        Told::TellFinish => First::at(counts, u),
         Told::TellSecond => finish_of(f),
     }
 }
@@ -61,7 +42,7 @@ pub(crate) fn given_of(counts: Counts, on: Key, pair: bool, told: Told, f: Fact,
 {
     match on {
         Key::Never => f,
-        Key::Anyone => Fact::Instance(start_told(counts, told, f, u), second_of(counts, u)),
+        Key::Anyone => Fact::Instance(start_told(counts, told, f, u), Second::at(counts, u)),
         Key::Of(c) => Fact::Instance(start_told(counts, told, f, u), c),
         Key::Role(r) => {
             if pair {
@@ -83,10 +64,10 @@ pub(crate) fn told_number(counts: Counts, told: Told, g: Fact) -> u64
 {
     match told {
         Told::Untold => 0,
-        Told::TellStart => first_number(counts, start_of(g)),
-        Told::TellFinish => first_number(counts, finish_of(g)),
+        Told::TellStart => start_of(g).number(counts),
+        Told::TellFinish => finish_of(g).number(counts),
         Told::TellSecond => match g {
-            Fact::Instance(_, y) => second_number(counts, y),
+            Fact::Instance(_, y) => y.number(counts),
             Fact::SelfPair(_, _) => 0,
             Fact::Pair(_, _, _) => 0,
         },

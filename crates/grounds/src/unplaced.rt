@@ -3,7 +3,8 @@ ghost use Rattle.std.specs.Prelude.{◌<◌};
 ghost use Rattle.calculus.specs.Tests.{Decides};
 ghost use Rattle.grounds.specs.Rules.{ByRule1, ByRule2, ByRule4, ByRule27, ByRule28, ByRule29};
 
-use crate::given::{is_by_rule, is_held, second_of, term_of};
+use crate::given::{is_by_rule, is_held};
+use calculus::term::Term;
 use calculus::terms::{Fact, First, Ground, Second};
 use marks::store::MarkStore;
 use rules::counts::Counts;
@@ -41,7 +42,7 @@ pub(crate) fn by_rule_27<S: MarkStore>(counts: Counts, store: &S, f: Fact, w: Gr
 {
     match f {
         Fact::Instance(First::Individual(x), z) => {
-            let u = term_of(counts, w.u);
+            let u = First::at(counts, w.u);
             x < counts.individuals
                 && is_held(counts, store, Fact::Instance(u, Second::Individual(x)))
                 && is_held(counts, store, Fact::Instance(u, z))
@@ -75,7 +76,7 @@ pub(crate) fn by_rule_29<S: MarkStore>(counts: Counts, store: &S, f: Fact, w: Gr
         Fact::Instance(_, _) => false,
         Fact::SelfPair(_, _) => false,
         Fact::Pair(x, v, First::Individual(y)) => {
-            let u = term_of(counts, w.u);
+            let u = First::at(counts, w.u);
             y < counts.individuals
                 && is_held(counts, store, Fact::Pair(x, v, u))
                 && is_held(counts, store, Fact::Instance(u, Second::Individual(y)))
@@ -103,9 +104,9 @@ pub(crate) fn by_rule_4<S: MarkStore>(
                 && is_held(
                     counts,
                     store,
-                    Fact::Instance(term_of(counts, w.u), Second::Class(class)),
+                    Fact::Instance(First::at(counts, w.u), Second::Class(class)),
                 )
-                && is_held(counts, store, Fact::Instance(x, second_of(counts, w.w)))
+                && is_held(counts, store, Fact::Instance(x, Second::at(counts, w.w)))
                 && w.rule == 4
                 && w.place == p + 1
         }

@@ -8,7 +8,7 @@ use Rattle.calculus.specs.Terms.{first_number, second_number, by_rule, by_statem
 use Rattle.calculus.specs.Steps.{Step}
 use Rattle.calculus.specs.Steps.{rule_1, rule_2, rule_3, rule_4, rule_5a, rule_5e, rule_5f, rule_5g, rule_6, rule_7, rule_8, rule_9j, rule_9b, rule_10j, rule_10b, rule_11, rule_12, rule_13, rule_14, rule_15, rule_16, rule_17, rule_18, rule_19, rule_20, rule_21, rule_22, rule_23, rule_24, rule_25, rule_26, rule_27, rule_28, rule_29}
 use Rattle.calculus.specs.Numbers.{Inside, FirstInside, SecondInside}
-use Rattle.calculus.proofs.Numbered.{first_low, second_low}
+use Rattle.calculus.specs.TermNumbers.{first_low, second_low}
 use Rattle.calculus.proofs.Contained.{step_inside}
 use Rattle.calculus.specs.declared.terms.First.{First}
 use Rattle.calculus.specs.declared.terms.Second.{Second}

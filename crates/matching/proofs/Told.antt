@@ -2,7 +2,7 @@
 use Rattle.std.proofs.Common.{◌≡◌, ℕ, Option, sym, refl, ap, ◌∙◌, arith, MatchOption}
 use Rattle.calculus.specs.Terms.{first_number, second_number}
 use Rattle.calculus.specs.Numbers.{Inside}
-use Rattle.calculus.proofs.Numbered.{first_same, second_same}
+use Rattle.calculus.specs.TermNumbers.{first_same, second_same}
 use Rattle.calculus.specs.declared.terms.First.{First}
 use Rattle.calculus.specs.declared.terms.Second.{Second}
 use Rattle.calculus.specs.declared.terms.Ground.{Ground}

@@ -8,7 +8,7 @@ ghost use Rattle.recovery.specs.EntryCuts.{EntryFits};
 ghost use Rattle.matching.specs.Complete.{entry_of};
 ghost use Rattle.matching.specs.Entries.{Tells, TellsNone, ToldOnce, GivenFits, ground_in, made};
 
-use calculus::numbers::{first_number, second_number};
+use calculus::term::Term;
 use calculus::terms::{Fact, First, Ground, Second};
 use recovery::entry::Entry;
 use rules::counts::Counts;
@@ -152,20 +152,8 @@ pub fn entry_of(counts: Counts, fact: Fact, ground: Ground) -> Option<Entry>
     ensures given { GivenFits }
 {
     match fact {
-        Fact::Instance(x, y) => entry_with(
-            b'I',
-            first_number(counts, x),
-            0,
-            second_number(counts, y),
-            ground,
-        ),
-        Fact::SelfPair(x, v) => entry_with(b'S', first_number(counts, x), v, 0, ground),
-        Fact::Pair(x, v, y) => entry_with(
-            b'T',
-            first_number(counts, x),
-            v,
-            first_number(counts, y),
-            ground,
-        ),
+        Fact::Instance(x, y) => entry_with(b'I', x.number(counts), 0, y.number(counts), ground),
+        Fact::SelfPair(x, v) => entry_with(b'S', x.number(counts), v, 0, ground),
+        Fact::Pair(x, v, y) => entry_with(b'T', x.number(counts), v, y.number(counts), ground),
     }
 }
