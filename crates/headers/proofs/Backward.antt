@@ -8,9 +8,10 @@ use Rattle.rules.specs.Refusals.{refusal}
 use Rattle.rules.specs.declared.refusals.Reason.TheVariants.{WrongContent, CountOutOfLimits}
 use Rattle.rules.specs.declared.refusals.Refusal.{Refusal}
 use Rattle.rules.specs.declared.statements.Statement.{Statement}
+use Rattle.reader.specs.Text.{is_name}
 use Rattle.headers.specs.declared.record.Record.{Record}
 use Rattle.headers.specs.Bytes.{at, long, two, four, slice, pieces, cut, even, all, joined}
-use Rattle.headers.specs.Names.{is_name, distinct, lines, line, ended, on_first, are_names}
+use Rattle.headers.specs.Names.{distinct, lines, line, ended, on_first, are_names}
 use Rattle.headers.specs.Records.{known_letter, is_record, record_in, record_bytes, records_refusal}
 use Rattle.headers.specs.Header.{Header, offset, size, part, directory_refusal, are_records, records_in, statements_in, wrong_content, content_refusal, judgement, holding, refuse, judged, of_parts, pair, directory, file_of, encode, renamed, Named}
 use Rattle.headers.specs.Theorems.{Bytes, Naming, Proper, OneFile, OnlyOne, AcceptedProper}

@@ -15,9 +15,11 @@ use Rattle.rules.specs.declared.forms.FieldKinds.{FieldKinds}
 use Rattle.rules.specs.declared.refusals.Reason.TheVariants.{WrongDirectory, WrongContent, CountOutOfLimits}
 use Rattle.rules.specs.declared.statements.Fields.{Fields}
 use Rattle.rules.specs.declared.statements.Statement.{Statement}
+use Rattle.reader.specs.Text as text
+use Rattle.reader.specs.Text.{name_byte, is_name}
 use Rattle.headers.specs.declared.record.Record.{Record}
 use Rattle.headers.specs.Bytes.{slice, pieces, cut, even, all, joined}
-use Rattle.headers.specs.Names.{name_byte, is_name, distinct, lines, line, ended, are_names}
+use Rattle.headers.specs.Names.{distinct, lines, line, ended, are_names}
 use Rattle.headers.specs.Records.{known_letter, is_record, record_in, record_bytes, records_refusal}
 use Rattle.headers.specs.Header.{Header, offset, size, end, part, starts, directory_refusal, are_records, records_in, judgement, holding, refuse, judged, of_parts, decode, directory, file_of}
 use Rattle.headers.specs.Theorems.{Naming, Proper, ReadBack}
@@ -35,15 +37,16 @@ byte_free b e =
       | inr f ↦ f
     ]
 
-name_free : (x : List ℕ) → all name_byte x ≡ true → Free x
+name_free : (x : List ℕ) → text.all name_byte x ≡ true → Free x
+unfolding text.all
 name_free [] e = tt
-name_free (b ∷ bs) e = let p = and_parts (name_byte b) (all name_byte bs) e in (byte_free b p.0, name_free bs p.1)
+name_free (b ∷ bs) e = let p = and_parts (name_byte b) (text.all name_byte bs) e in (byte_free b p.0, name_free bs p.1)
 
 name_free_of_end : (x : List ℕ) → is_name x ≡ true → Free x
-name_free_of_end x e = name_free x (and_parts (leb (length x) 24) (all name_byte x) (and_parts (leb 1 (length x)) (leb (length x) 24 && all name_byte x) e).1).1
+name_free_of_end x e = name_free x (and_parts (leb 1 (length x) && leb (length x) 24) (text.all name_byte x) e).1
 
 name_short : (x : List ℕ) → is_name x ≡ true → length x ≤ 24
-name_short x e = leb-true (length x) 24 (and_parts (leb (length x) 24) (all name_byte x) (and_parts (leb 1 (length x)) (leb (length x) 24 && all name_byte x) e).1).0
+name_short x e = leb-true (length x) 24 (and_parts (leb 1 (length x)) (leb (length x) 24) (and_parts (leb 1 (length x) && leb (length x) 24) (text.all name_byte x) e).0).1
 
 lines_joined : (ns : List (List ℕ)) → all is_name ns ≡ true → lines (joined line ns) ≡ ns
 lines_joined [] e = refl

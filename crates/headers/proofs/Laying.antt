@@ -27,6 +27,10 @@ laid_laid o at m a b e h =
     ap (λ v. v ++ (b ++ drop (m + length b) (laid o at a))) x ∙ (ap (λ v. f ++ (b ++ v)) z
     ∙ (append_assoc (take at o) a (b ++ drop (at + length (a ++ b)) o) ∙ ap (λ v. take at o ++ v) (sym (append_assoc a b (drop (at + length (a ++ b)) o)))))
 
+-- the same, with the room told by the place after both
+pub laid_on : (o : List ℕ) (at m : ℕ) (a b : List ℕ) → m ≡ at + length a → m + length b ≤ length o → laid (laid o at a) m b ≡ laid o at (a ++ b)
+laid_on o at m a b e h = laid_laid o at m a b e (omega (arith, e, h))
+
 pub laid_length : (o : List ℕ) (at : ℕ) (a : List ℕ) → at + length a ≤ length o → length (laid o at a) ≡ length o
 laid_length o at a h = omega (arith, length-append (take at o) (a ++ drop (at + length a) o), length-append a (drop (at + length a) o), length-take at o, length-drop (at + length a) o)
 

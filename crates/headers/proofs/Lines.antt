@@ -1,25 +1,12 @@
-use Rattle.std.proofs.Common.{◌≡◌, ℕ, zero, suc, ◌+◌, ◌-◌, ◌<◌, ◌≤◌, Bool, true, false, not, ◌&&◌, ◌||◌, eqb, List, [], ◌∷◌, ◌++◌, length, get_or, take, drop, Decides, sym, refl, ap, ◌∙◌, inl, inr, suc-le-suc, zero-le, arith, length-append, take-append-drop}
+use Rattle.std.proofs.Common.{◌≡◌, ℕ, zero, suc, ◌+◌, ◌-◌, ◌<◌, Bool, true, false, not, ◌&&◌, ◌||◌, eqb, List, [], ◌∷◌, ◌++◌, length, get_or, take, drop, Decides, sym, refl, ap, ◌∙◌, inl, inr, suc-le-suc, zero-le, arith, length-append, take-append-drop}
 use Rattle.std.specs.Str.{bytes_eq}
 use Rattle.std.proofs.lemmas.Slice.Eq.{bytes_eq-Decides}
 use Rattle.std.proofs.lemmas.Bool.Decides.{same_from_decides}
-use Rattle.std.proofs.lemmas.List.{at_drop_more, drop_more}
-use Rattle.std.proofs.lemmas.Bool.{cond-true, cond-false, ne_eqb, le-leb, cases_Bool}
+use Rattle.std.proofs.lemmas.List.{drop_more}
+use Rattle.std.proofs.lemmas.Bool.{cond-true, cond-false, ne_eqb, cases_Bool}
+use Rattle.reader.specs.Text.{is_name}
 use Rattle.headers.specs.Bytes.{all}
-use Rattle.headers.specs.Names.{name_byte, is_name, lines, ended, is_in, distinct, are_names, on_first}
-
--- a test of each element, one step on
-module _ (p : ℕ → Bool) (xs : List ℕ) (i : ℕ) (h : i < length xs) where
-  all_here : all p (drop i xs) ≡ (p (get_or xs i 0) && all p (drop (i + 1) xs))
-  all_here = at_drop_more (all p) xs i 0 h
-
-  pub all_step : p (get_or xs i 0) ≡ true → all p (drop i xs) ≡ all p (drop (i + 1) xs)
-  all_step e = all_here ∙ ap (λ t. t && all p (drop (i + 1) xs)) e
-
-  pub all_bad : p (get_or xs i 0) ≡ false → all p (drop i xs) ≡ false
-  all_bad e = all_here ∙ ap (λ t. t && all p (drop (i + 1) xs)) e
-
-pub name_is : (x : List ℕ) → 1 ≤ length x → length x ≤ 24 → is_name x ≡ all name_byte x
-name_is x h k = let p = le-leb 1 (length x) h in let q = le-leb (length x) 24 k in cc
+use Rattle.headers.specs.Names.{lines, ended, is_in, distinct, are_names, on_first}
 
 -- no byte is a line end
 abbrev pub Free : List ℕ → Type 0

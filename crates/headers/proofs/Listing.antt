@@ -1,34 +1,26 @@
--- Names written one by one.
-use Rattle.std.proofs.Common.{◌≡◌, ℕ, ◌+◌, ◌-◌, ◌<◌, ◌≤◌, List, [], ◌∷◌, ◌++◌, map, length, get_or, take, sym, refl, ap, ◌∙◌, arith, length-append}
-use Rattle.rules.specs.declared.statements.Statement.{Statement}
-use Rattle.headers.specs.declared.encode.Name.{Name}
+-- Names written one by one: what is left of them, one name on.
+use Rattle.std.proofs.Common.{◌≡◌, ℕ, ◌+◌, ◌<◌, ◌≤◌, List, [], ◌∷◌, ◌++◌, map, length, get_or, drop, sym, ap, ◌∙◌, arith, length-append}
+use Rattle.std.proofs.lemmas.List.{drop_more}
 use Rattle.headers.specs.Bytes.{joined}
 use Rattle.headers.specs.Names.{line}
-use Rattle.headers.specs.Records.{record_bytes}
-use Rattle.headers.specs.Header.{file_of, encode}
-use Rattle.headers.specs.Spelt.{spelling, name_line, listing}
-use Rattle.headers.proofs.Laying.{next_size, prefix_length}
+use Rattle.headers.specs.Output.{laid}
+use Rattle.headers.proofs.Laying.{laid_on}
 
--- what stands past the end of a list of names
-abbrev pub no_name : Name
-no_name = record { bytes = record { ref_ptr = (0, 0); now = [] } }
+-- the lines of the names from the i-th on
+abbrev pub lines_from : {X : Type 0} → (X → List ℕ) → List X → ℕ → List ℕ
+lines_from items xs i = joined line (map items (drop i xs))
 
-module _ (names : List Name) (i : ℕ) (d : Name) (l : i < length names) where
-  pub size_next : length (joined name_line (take (i + 1) names)) ≡ length (joined name_line (take i names)) + (length (spelling (get_or names i d)) + 1)
-  size_next = next_size name_line names i d l ∙ ap (λ k. length (joined name_line (take i names)) + k) (length-append (spelling (get_or names i d)) (10 ∷ []))
+module _ {X : Type 0} (items : X → List ℕ) (xs : List X) (i : ℕ) (x : X) (b : List ℕ) (l : i < length xs) (e : x ≡ get_or xs i x) (t : b ≡ items x) where
+  next_line : lines_from items xs i ≡ line b ++ lines_from items xs (i + 1)
+  next_line =
+      ap (λ (ys : List X). joined line (map items ys)) (drop_more xs i x l ∙ ap (λ y. y ∷ drop (i + 1) xs) (sym e))
+      ∙ ap (λ v. line v ++ lines_from items xs (i + 1)) (sym t)
 
-  pub too_long : (size : ℕ) → size ≡ length (joined name_line (take i names)) → size < 4294967296 → 4294967295 - size ≤ length (spelling (get_or names i d)) → 4294967296 ≤ length (joined name_line names)
-  too_long size e b h = omega (arith, e, b, h, size_next, prefix_length name_line names (i + 1))
+  pub next_length : length (lines_from items xs i) ≡ length b + 1 + length (lines_from items xs (i + 1))
+  next_length = ap length next_line ∙ (length-append (line b) (lines_from items xs (i + 1)) ∙ ap (λ n. n + length (lines_from items xs (i + 1))) (length-append b (10 ∷ [])))
 
-  pub fits_next : (o : List ℕ) (at to : ℕ) → at + length (joined name_line names) ≤ length o → to ≡ at + length (joined name_line (take i names)) → to + (length (spelling (get_or names i d)) + 1) ≤ length o
-  fits_next o at to h e = omega (arith, h, e, size_next, prefix_length name_line names (i + 1))
-
-joined_map : (names : List Name) → joined line (map spelling names) ≡ joined name_line names
-joined_map [] = refl
-joined_map (x ∷ xs) = ap (λ v. name_line x ++ v) (joined_map xs)
-
-pub listing_is : (x c v : List Name) (ss : List Statement) → file_of (joined name_line x) (joined name_line c) (joined name_line v) (joined record_bytes ss) ≡ encode (listing x c v ss)
-listing_is x c v ss =
-    ap (λ a. file_of a (joined name_line c) (joined name_line v) (joined record_bytes ss)) (sym (joined_map x))
-    ∙ (ap (λ a. file_of (joined line (map spelling x)) a (joined name_line v) (joined record_bytes ss)) (sym (joined_map c))
-    ∙ ap (λ a. file_of (joined line (map spelling x)) (joined line (map spelling c)) a (joined record_bytes ss)) (sym (joined_map v)))
+  pub next_laid : (o : List ℕ) (at : ℕ) → at + length (lines_from items xs i) ≤ length o →
+      laid (laid o at (line b)) (at + (length b + 1)) (lines_from items xs (i + 1)) ≡ laid o at (lines_from items xs i)
+  next_laid o at h =
+      laid_on o at (at + (length b + 1)) (line b) (lines_from items xs (i + 1)) (omega (arith, length-append b (10 ∷ []))) (omega (arith, length-append b (10 ∷ []), next_length, h))
+      ∙ ap (laid o at) (sym next_line)

@@ -124,13 +124,22 @@ directory x c v s =
 abbrev pub file_of : List ℕ → List ℕ → List ℕ → List ℕ → List ℕ
 file_of x c v s = directory (length x) (length c) (length v) (length s) ++ (x ++ (c ++ (v ++ s)))
 
+-- A header of these names and statements.
+abbrev pub listing : List (List ℕ) → List (List ℕ) → List (List ℕ) → List Statement → Header
+listing individuals classes roles statements = record {
+  individuals = individuals;
+  classes = classes;
+  roles = roles;
+  statements = statements;
+}
+
 -- A header as a file.
 abbrev pub encode : Header → List ℕ
 encode h = file_of (joined line h.individuals) (joined line h.classes) (joined line h.roles) (joined record_bytes h.statements)
 
 -- The header with the names in three parts and other statements.
 abbrev pub renamed : List ℕ → List ℕ → List ℕ → List Statement → Header
-renamed x c v ss = record { individuals = lines x; classes = lines c; roles = lines v; statements = ss }
+renamed x c v ss = listing (lines x) (lines c) (lines v) ss
 
 -- Three parts of names are right.
 pub record Named (x c v : List ℕ) : Type 0 where

@@ -5,4 +5,3 @@ pub mod Header
 pub mod Theorems
 pub mod Views
 pub mod Output
-pub mod Spelt

@@ -1,15 +1,9 @@
--- A part of names: lines of 1 to 24 of a-z, 0-9 and hyphen, each ended by byte 10, no line twice.
-use Rattle.std.specs.Prelude.{ℕ, Bool, true, false, cond, not, ◌&&◌, ◌||◌, List, [], ◌∷◌, ◌++◌, length, ◌==◌, nat_le}
+-- A part of names: lines, each ended by byte 10. Each is a name as in a rule text, 1 to 24 of a-z, 0-9 and hyphen, and no line
+-- stands twice.
+use Rattle.std.specs.Prelude.{ℕ, Bool, true, false, cond, not, ◌&&◌, ◌||◌, List, [], ◌∷◌, ◌++◌, ◌==◌}
 use Rattle.std.specs.Str.{bytes_eq}
+use Rattle.reader.specs.Text.{is_name}
 use Rattle.headers.specs.Bytes.{all}
-
--- a-z, 0-9 or hyphen
-abbrev pub name_byte : ℕ → Bool
-name_byte b = (nat_le 97 b && nat_le b 122) || ((nat_le 48 b && nat_le b 57) || b == 45)
-
--- 1 to 24 of those
-abbrev pub is_name : List ℕ → Bool
-is_name x = nat_le 1 (length x) && (nat_le (length x) 24 && all name_byte x)
 
 -- the lines of a part: what stands before each byte 10
 abbrev pub on_first : ℕ → List (List ℕ) → List (List ℕ)

@@ -2,8 +2,9 @@
 -- same names and statements, in the same order, are the same bytes.
 use Rattle.std.specs.Prelude.{◌≡◌, ℕ, ◌<◌, true, List, length, None, Ok}
 use Rattle.rules.specs.Fits.{base_refusal}
+use Rattle.reader.specs.Text.{is_name}
 use Rattle.headers.specs.Bytes.{at, all}
-use Rattle.headers.specs.Names.{is_name, distinct}
+use Rattle.headers.specs.Names.{distinct}
 use Rattle.headers.specs.Header.{Header, decode, encode}
 
 -- Names of a kind: each is a name, and none stands twice.

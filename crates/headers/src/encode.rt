@@ -2,21 +2,14 @@
 ghost use Rattle.std.specs.Prelude.{◌≡◌, ℕ, ◌+◌, ◌-◌, ◌*◌, ◌<◌, ◌≤◌, List, [], ◌∷◌, ◌++◌, map, length, MatchOption, MatchResult};
 ghost use Rattle.headers.specs.Bytes.{joined};
 ghost use Rattle.headers.specs.Names.{line};
-ghost use Rattle.headers.specs.Records.{record_bytes};
-ghost use Rattle.headers.specs.Header.{file_of, encode};
+ghost use Rattle.headers.specs.Header.{listing, encode};
 ghost use Rattle.headers.specs.Output.{laid, Wrote, Kept};
 ghost use Rattle.headers.specs.Theorems.{ReadBack};
-ghost use Rattle.headers.specs.Spelt.{name_line, listing};
 
 use crate::output::{copy_at, put_directory, put_records, too_short, total};
 use rules::refusals::Refusal;
 use rules::statements::Statement;
-
-/// A name to be written, without its end.
-#[derive(Clone, Copy)]
-pub struct Name<'a> {
-    pub bytes: &'a [u8],
-}
+use std::convert::AsSlice;
 
 // A name and its end.
 fn put_line(out: &mut [u8], at: usize, name: &[u8])
@@ -28,12 +21,12 @@ fn put_line(out: &mut [u8], at: usize, name: &[u8])
 }
 
 // How long names are with their ends, if 32 bits can say it.
-fn names_size(names: &[Name<'_>]) -> Option<usize>
-    ensures { MatchOption result (4294967296 ≤ length (joined name_line names.now)) (λ n. (n ≡ length (joined name_line names.now)) × (n < 4294967296)) }
+fn names_size<N: AsSlice<u8>>(names: &[N]) -> Option<usize>
+    ensures { MatchOption result (4294967296 ≤ length (joined line (map N.items names.now))) (λ n. (n ≡ length (joined line (map N.items names.now))) × (n < 4294967296)) }
 {
-    let mut size = 0;
-    for i in 0..names.len() {
-        let more = names[i].bytes.len();
+    let mut size: usize = 0;
+    for name in names {
+        let more = name.as_slice().len();
         if more >= 4294967295 - size {
             return None;
         }
@@ -43,29 +36,29 @@ fn names_size(names: &[Name<'_>]) -> Option<usize>
 }
 
 // The names of a part; answers where they end.
-fn put_names(out: &mut [u8], at: usize, names: &[Name<'_>]) -> usize
-    requires { at + length (joined name_line names.now) ≤ length out.old }
-    ensures bytes { out.new ≡ laid out.old at (joined name_line names.now) }
-    ensures end { result ≡ at + length (joined name_line names.now) }
+fn put_names<N: AsSlice<u8>>(out: &mut [u8], at: usize, names: &[N]) -> usize
+    requires { at + length (joined line (map N.items names.now)) ≤ length out.old }
+    ensures bytes { out.new ≡ laid out.old at (joined line (map N.items names.now)) }
+    ensures end { result ≡ at + length (joined line (map N.items names.now)) }
 {
     let mut to = at;
-    for i in 0..names.len() {
-        let name = names[i].bytes;
-        put_line(out, to, name);
-        to += name.len() + 1;
+    for name in names {
+        let bytes = name.as_slice();
+        put_line(out, to, bytes);
+        to += bytes.len() + 1;
     }
     to
 }
 
 // Writes names and statements as a header, and answers its length.
-fn write_lists(
-    individuals: &[Name<'_>],
-    classes: &[Name<'_>],
-    roles: &[Name<'_>],
+fn write_lists<N: AsSlice<u8>>(
+    individuals: &[N],
+    classes: &[N],
+    roles: &[N],
     statements: &[Statement],
     out: &mut [u8],
 ) -> Result<usize, Refusal>
-    ensures { MatchResult result (λ n. Wrote out.old out.new (file_of (joined name_line individuals.now) (joined name_line classes.now) (joined name_line roles.now) (joined record_bytes statements.now)) n) (λ e. Kept out.old out.new (file_of (joined name_line individuals.now) (joined name_line classes.now) (joined name_line roles.now) (joined record_bytes statements.now)) e) }
+    ensures { MatchResult result (λ n. Wrote out.old out.new (encode (listing (map N.items individuals.now) (map N.items classes.now) (map N.items roles.now) statements.now)) n) (λ e. Kept out.old out.new (encode (listing (map N.items individuals.now) (map N.items classes.now) (map N.items roles.now) statements.now)) e) }
 {
     let Some(x) = names_size(individuals) else {
         return Err(too_short());
@@ -92,14 +85,14 @@ fn write_lists(
 
 /// Writes the header of the given names and statements, and answers its length. Neither is judged; where they are in order,
 /// the header reads back as them.
-pub fn write_header(
-    individuals: &[Name<'_>],
-    classes: &[Name<'_>],
-    roles: &[Name<'_>],
+pub fn write_header<N: AsSlice<u8>>(
+    individuals: &[N],
+    classes: &[N],
+    roles: &[N],
     statements: &[Statement],
     out: &mut [u8],
 ) -> Result<usize, Refusal>
-    ensures bytes { MatchResult result (λ n. Wrote out.old out.new (encode (listing individuals.now classes.now roles.now statements.now)) n) (λ e. Kept out.old out.new (encode (listing individuals.now classes.now roles.now statements.now)) e) }
+    ensures bytes { MatchResult result (λ n. Wrote out.old out.new (encode (listing (map N.items individuals.now) (map N.items classes.now) (map N.items roles.now) statements.now)) n) (λ e. Kept out.old out.new (encode (listing (map N.items individuals.now) (map N.items classes.now) (map N.items roles.now) statements.now)) e) }
     ensures back { ReadBack }
 {
     write_lists(individuals, classes, roles, statements, out)

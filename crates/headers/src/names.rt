@@ -1,26 +1,8 @@
 // Names in a part of a header: each is ended by a line end.
 ghost use Rattle.std.specs.Prelude.{◌≡◌, ℕ, ◌+◌, ◌-◌, ◌*◌, ◌<◌, ◌≤◌, true, false, not, ◌&&◌, List, [], ◌∷◌, ◌++◌, length, Some, None, MatchOption, slice_index_or};
-ghost use Rattle.headers.specs.Names.{name_byte, is_name, lines, ended, is_in, distinct, are_names, line};
+ghost use Rattle.headers.specs.Names.{lines, ended, is_in, distinct, are_names, line};
 
-fn name_byte(b: u8) -> bool
-    ensures { result ≡ name_byte b }
-{
-    b >= b'a' && b <= b'z' || b >= b'0' && b <= b'9' || b == b'-'
-}
-
-fn is_name(name: &[u8]) -> bool
-    ensures { result ≡ is_name name.now }
-{
-    if name.len() < 1 || name.len() > 24 {
-        return false;
-    }
-    for b in name {
-        if !name_byte(*b) {
-            return false;
-        }
-    }
-    true
-}
+use reader::letters::is_name;
 
 // The first line, without its end, and what stands after it.
 fn first_line(part: &[u8]) -> Option<(&[u8], &[u8])>

@@ -1,43 +1,43 @@
-use Rattle.std.proofs.Common.{◌*◌, length, ap, ◌∙◌, arith}
+use Rattle.std.proofs.Common.{map, ◌*◌, length, ap, ◌∙◌, arith}
 use Rattle.headers.specs.Bytes.{joined}
 use Rattle.headers.specs.Records.{record_bytes}
 use Rattle.headers.specs.Header.{directory}
 use Rattle.headers.specs.Output.{laid}
-use Rattle.headers.specs.Spelt.{name_line}
+use Rattle.headers.specs.Names.{line}
 use Rattle.headers.proofs.Laying.{laid_four, joined_length, wrote, kept_long, kept_short}
 use Rattle.headers.proofs.encode.write_lists.Goals as goal
 
 pub returns-in_default : goal.returns-in_default
-returns-in_default c =
+returns-in_default g c =
     let a = c.args in
-    kept_long (joined name_line a.individuals.now) (joined name_line a.classes.now) (joined name_line a.roles.now) a.statements.now a.out.now _ c.too_short.ensures (omega (arith, c.in_default.ensures))
+    kept_long (joined line (map g.N.AsSlice.items a.individuals.now)) (joined line (map g.N.AsSlice.items a.classes.now)) (joined line (map g.N.AsSlice.items a.roles.now)) a.statements.now a.out.now _ c.too_short.ensures (omega (arith, c.in_default.ensures))
 
 pub returns-in_default-names_size : goal.returns-in_default-names_size
-returns-in_default-names_size c =
+returns-in_default-names_size g c =
     let a = c.args in
-    kept_long (joined name_line a.individuals.now) (joined name_line a.classes.now) (joined name_line a.roles.now) a.statements.now a.out.now _ c.too_short-in_default-names_size.ensures (omega (arith, c.in_default-names_size.ensures))
+    kept_long (joined line (map g.N.AsSlice.items a.individuals.now)) (joined line (map g.N.AsSlice.items a.classes.now)) (joined line (map g.N.AsSlice.items a.roles.now)) a.statements.now a.out.now _ c.too_short-in_default-names_size.ensures (omega (arith, c.in_default-names_size.ensures))
 
 pub returns-in_default-names_size-2 : goal.returns-in_default-names_size-2
-returns-in_default-names_size-2 c =
+returns-in_default-names_size-2 g c =
     let a = c.args in
-    kept_long (joined name_line a.individuals.now) (joined name_line a.classes.now) (joined name_line a.roles.now) a.statements.now a.out.now _ c.too_short-in_default-names_size-2.ensures (omega (arith, c.in_default-names_size-2.ensures))
+    kept_long (joined line (map g.N.AsSlice.items a.individuals.now)) (joined line (map g.N.AsSlice.items a.classes.now)) (joined line (map g.N.AsSlice.items a.roles.now)) a.statements.now a.out.now _ c.too_short-in_default-names_size-2.ensures (omega (arith, c.in_default-names_size-2.ensures))
 
 pub returns-in_default-total : goal.returns-in_default-total
-returns-in_default-total c =
+returns-in_default-total g c =
     let a = c.args in
     let x = c.in-Some.ensures in let k = c.in-Some-names_size.ensures in let v = c.in-Some-names_size-2.ensures in
-    kept_long (joined name_line a.individuals.now) (joined name_line a.classes.now) (joined name_line a.roles.now) a.statements.now a.out.now _ c.too_short-in_default-total.ensures (omega (arith, x.0, k.0, v.0, c.in_default-total.ensures))
+    kept_long (joined line (map g.N.AsSlice.items a.individuals.now)) (joined line (map g.N.AsSlice.items a.classes.now)) (joined line (map g.N.AsSlice.items a.roles.now)) a.statements.now a.out.now _ c.too_short-in_default-total.ensures (omega (arith, x.0, k.0, v.0, c.in_default-total.ensures))
 
 pub returns-then-n-out : goal.returns-then-n-out
-returns-then-n-out c =
+returns-then-n-out g c =
     let a = c.args in
     let x = c.in-Some.ensures in let k = c.in-Some-names_size.ensures in let v = c.in-Some-names_size-2.ensures in
-    kept_short (joined name_line a.individuals.now) (joined name_line a.classes.now) (joined name_line a.roles.now) a.statements.now a.out.now _ c.too_short-then-n-out.ensures (omega (arith, x.0, k.0, v.0, c.in-Some-total.ensures.0, c.if-n-out.true))
+    kept_short (joined line (map g.N.AsSlice.items a.individuals.now)) (joined line (map g.N.AsSlice.items a.classes.now)) (joined line (map g.N.AsSlice.items a.roles.now)) a.statements.now a.out.now _ c.too_short-then-n-out.ensures (omega (arith, x.0, k.0, v.0, c.in-Some-total.ensures.0, c.if-n-out.true))
 
 pub returns : goal.returns
-returns c =
+returns g c =
     let a = c.args in
-    let x = joined name_line a.individuals.now in let k = joined name_line a.classes.now in let v = joined name_line a.roles.now in
+    let x = joined line (map g.N.AsSlice.items a.individuals.now) in let k = joined line (map g.N.AsSlice.items a.classes.now) in let v = joined line (map g.N.AsSlice.items a.roles.now) in
     let ss = a.statements.now in
     let ex = c.in-Some.ensures.0 in let ek = c.in-Some-names_size.ensures.0 in let ev = c.in-Some-names_size-2.ensures.0 in
     let n = c.in-Some-total.ensures in

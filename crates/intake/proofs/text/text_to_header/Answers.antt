@@ -1,9 +1,9 @@
-use Rattle.std.proofs.Common.{sym, refl, ap, inl, inr}
+use Rattle.std.proofs.Common.{refl, ap, inl, inr}
 use Rattle.std.proofs.lemmas.Result.{err_from_is_err_and, MatchResult-weaker}
 use Rattle.headers.specs.Header.{encode}
 use Rattle.headers.proofs.Laying.{written_as}
 use Rattle.ruletext.proofs.One.{one_outcome}
-use Rattle.intake.proofs.Turning.{handed, listing_held, text_accepted}
+use Rattle.intake.proofs.Turning.{listing_held, text_accepted}
 use Rattle.intake.proofs.text.text_to_header.Goals as goal
 
 pub returns-in_err-read : goal.returns-in_err-read
@@ -20,10 +20,7 @@ pub returns : goal.returns
 returns c =
     let m = c.in_ok-read.ensures.exact in
     let held = c.read.new.self in
-    let x = handed _ _ _ _ _ c.spell.ensures c.as_slice.ensures.value (sym c.as_slice.ensures.len) c.len.ensures in
-    let k = handed _ _ _ _ _ c.spell-2.ensures c.as_slice-2.ensures.value (sym c.as_slice-2.ensures.len) c.len-2.ensures in
-    let v = handed _ _ _ _ _ c.spell-3.ensures c.as_slice-3.ensures.value (sym c.as_slice-3.ensures.len) c.len-3.ensures in
-    let same = ap encode (listing_held held _ _ _ _ x k v c.as_slice-4.ensures.value) in
+    let same = ap encode (listing_held held _ _ _ _ c.as_slice.ensures.value c.as_slice-2.ensures.value c.as_slice-3.ensures.value c.as_slice-4.ensures.value) in
     let w = written_as c.write_header.result c.args.out.now c.write_header.new.out _ _ same c.write_header.ensures.bytes in
     record {
       exact = MatchResult-weaker c.write_header.result w (λ n h. record { means = m; wrote = h }) (λ e h. inr (record { means = m; kept = h }));
