@@ -3,17 +3,15 @@ use Rattle.std.proofs.Common.{◌≡◌, ℕ, ◌+◌, ◌*◌, ◌/◌, ◌%◌
 use lib.ListN.{length-map}
 use Rattle.std.proofs.lemmas.List.{take_at, drop_at, append-nil}
 use Rattle.std.proofs.lemmas.Bool.{and_parts, and_from, eqb-true, eq-eqb, leb-true, le-leb, cases_Bool, true≢false}
-use Rattle.rules.specs.Forms.{fields_of_form}
+use Rattle.rules.specs.Forms.{FieldKinds, fields_of_form}
 use Rattle.rules.specs.Fits.{FieldFits, FormFits, fits, all_fit}
 use Rattle.rules.specs.Formed.{Accepted, fits_formed, fit_unrefused, unrefused_accepted}
 use Rattle.rules.specs.Limits.{within_limits}
 use Rattle.rules.specs.Refusals.{refusal}
-use Rattle.rules.specs.Statements.{letter_of, fields_of, three}
+use Rattle.rules.specs.Statements.{Fields, letter_of, fields_of, three}
 use Rattle.rules.specs.declared.forms.Kind.{Kind}
 use Rattle.rules.specs.declared.forms.Kind.TheVariants as kind
-use Rattle.rules.specs.declared.forms.FieldKinds.{FieldKinds}
 use Rattle.rules.specs.declared.refusals.Reason.TheVariants.{WrongDirectory, WrongContent, CountOutOfLimits}
-use Rattle.rules.specs.declared.statements.Fields.{Fields}
 use Rattle.rules.specs.declared.statements.Statement.{Statement}
 use Rattle.reader.specs.Text as text
 use Rattle.reader.specs.Text.{name_byte, is_name}

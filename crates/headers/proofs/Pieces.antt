@@ -2,9 +2,8 @@
 use Rattle.std.proofs.Common.{◌≡◌, ℕ, zero, suc, ◌+◌, ◌/◌, ◌%◌, ◌<◌, ◌≤◌, Bool, true, false, ◌&&◌, eqb, List, [], ◌∷◌, map, length, take, drop, Some, None, Option, sym, refl, ap, ◌∙◌, arith, length-drop}
 use lib.ListN.{length-map}
 use Rattle.std.proofs.lemmas.Bool.{and_right}
-use Rattle.rules.specs.Forms.{fields_of_form}
+use Rattle.rules.specs.Forms.{FieldKinds, fields_of_form}
 use Rattle.rules.specs.Fits.{refuse_field, wrong_field, wrong_by_form}
-use Rattle.rules.specs.declared.forms.FieldKinds.{FieldKinds}
 use Rattle.rules.specs.Refusals.{refusal}
 use Rattle.rules.specs.declared.refusals.Reason.TheVariants.{WrongField}
 use Rattle.headers.specs.declared.record.Record.{Record}

@@ -2,13 +2,11 @@
 use Rattle.std.proofs.Common.{◌≡◌, ℕ, suc, ◌+◌, ◌<◌, Bool, true, false, cond, eqb, List, [], ◌∷◌, ◌++◌, map, length, is_some, Some, None, Option, sym, refl, ap, ◌∙◌, subst, inl, inr, arith}
 use borrow.Author.Tests.{both_ways}
 use Rattle.std.proofs.lemmas.Bool.{and_parts, eqb-true, cond-true, cond-false, cases_Bool}
-use Rattle.rules.specs.Forms.{fields_of_form}
-use Rattle.rules.specs.Statements.{letter_of, fields_of, statement_of, three}
+use Rattle.rules.specs.Forms.{FieldKinds, fields_of_form}
+use Rattle.rules.specs.Statements.{Fields, letter_of, fields_of, statement_of, three}
 use Rattle.rules.specs.Fits.{field_fits, first_false, FormFits, wrong_by_form, wrong_in, refuse_field, statements_refusal}
 use Rattle.rules.specs.Formed.{field_out}
-use Rattle.rules.specs.declared.forms.FieldKinds.{FieldKinds}
 use Rattle.rules.specs.declared.refusals.Refusal.{Refusal}
-use Rattle.rules.specs.declared.statements.Fields.{Fields}
 use Rattle.rules.specs.declared.statements.Statement.{Statement}
 use Rattle.rules.specs.declared.statements.Statement.TheVariants as s
 use Rattle.headers.specs.declared.record.Record.{Record}

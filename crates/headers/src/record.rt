@@ -7,13 +7,14 @@ ghost use Rattle.headers.specs.Records.{known_letter, record_in, stated, wrong_i
 use rules::counts::Counts;
 use rules::fields::wrong_field;
 use rules::forms::field_kinds;
-use rules::statements::{Fields, Statement};
+use rules::statements::Statement;
+use rules::three::Three;
 
 /// A letter and three fields.
 #[derive(Clone, Copy)]
 pub struct Record {
     pub letter: u8,
-    pub fields: Fields,
+    pub fields: Three<u16>,
 }
 
 // A 16-bit number, high byte first.
@@ -37,11 +38,7 @@ pub(crate) fn cut_record(bytes: &[u8]) -> Option<(u8, Record, &[u8])>
         *zero,
         Record {
             letter: *letter,
-            fields: Fields {
-                first,
-                second,
-                third,
-            },
+            fields: Three::new(first, second, third),
         },
         rest,
     ))
@@ -75,7 +72,7 @@ impl Record {
     pub fn statement(self) -> Option<Statement>
         ensures { result ≡ stated self }
     {
-        let Fields {
+        let Three {
             first,
             second,
             third,

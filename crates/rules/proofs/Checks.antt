@@ -2,17 +2,15 @@
 use Rattle.std.proofs.Common.{◌≡◌, ℕ, ◌+◌, ◌<◌, ◌≤◌, Bool, true, false, cond, not, eqb, List, length, drop, is_some, Some, None, Option, sym, refl, ap, ◌∙◌, add-one, drop_of_length-le, drop-cons, eq-eqb, ne_eqb, eqb-true}
 use borrow.Author.Tests.{both_ways}
 use Rattle.std.proofs.lemmas.Bool.{and_parts, and_from, and_left, and_right}
-use Rattle.rules.specs.Forms.{fields_of_form}
-use Rattle.rules.specs.Statements.{letter_of, fields_of}
+use Rattle.rules.specs.Forms.{FieldKinds, fields_of_form}
+use Rattle.rules.specs.Statements.{Fields, letter_of, fields_of}
 use Rattle.rules.specs.Fits.{wrong_field, wrong_by_form, wrong_in, refuse_field, statements_refusal, base_refusal, all_fit, pass}
 use Rattle.rules.specs.Formed.{unrefused_fit, fit_unrefused}
 use Rattle.rules.specs.Limits.{within_limits}
 use Rattle.rules.specs.Places.{place}
 use Rattle.rules.specs.Refusals.{refusal}
-use Rattle.rules.specs.declared.forms.FieldKinds.{FieldKinds}
 use Rattle.rules.specs.declared.refusals.Reason.TheVariants.{WrongField, CountOutOfLimits}
 use Rattle.rules.specs.declared.refusals.Refusal.{Refusal}
-use Rattle.rules.specs.declared.statements.Fields.{Fields}
 use Rattle.rules.specs.declared.statements.Statement.{Statement}
 use Rattle.rules.specs.declared.statements.Statement.TheVariants.{Member}
 

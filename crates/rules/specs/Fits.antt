@@ -1,16 +1,14 @@
 -- Well-formed statements. A book has n individuals, k classes and r roles. A field fits if it is below the count of its
 -- kind, and a field that its form does not use fits if it is 0. A statement is well formed if its three fields fit.
 use Rattle.std.specs.Prelude.{◌≡◌, ℕ, ◌+◌, ◌<◌, Bool, true, false, cond, not, ◌&&◌, List, [], ◌∷◌, length, is_some, Some, None, Option, ◌==◌, nat_lt}
-use Rattle.rules.specs.Forms.{fields_of_form}
-use Rattle.rules.specs.Statements.{letter_of, fields_of}
+use Rattle.rules.specs.Forms.{FieldKinds, fields_of_form}
+use Rattle.rules.specs.Statements.{Fields, letter_of, fields_of}
 use Rattle.rules.specs.Limits.{within_limits}
 use Rattle.rules.specs.Refusals.{refusal}
 use Rattle.rules.specs.declared.forms.Kind.{Kind}
 use Rattle.rules.specs.declared.forms.Kind.TheVariants as kind
-use Rattle.rules.specs.declared.forms.FieldKinds.{FieldKinds}
 use Rattle.rules.specs.declared.refusals.Reason.TheVariants as reason
 use Rattle.rules.specs.declared.refusals.Refusal.{Refusal}
-use Rattle.rules.specs.declared.statements.Fields.{Fields}
 use Rattle.rules.specs.declared.statements.Statement.{Statement}
 
 -- How many names of a kind there are.

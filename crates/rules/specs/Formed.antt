@@ -4,16 +4,14 @@
 use Rattle.std.specs.Prelude.{◌≡◌, ℕ, zero, suc, ◌+◌, ◌<◌, Bool, true, false, cond, not, List, [], ◌∷◌, length, is_some, Some, None, Option, ◌==◌, refl}
 use Rattle.std.proofs.Common.{ap, subst, ◌∙◌, arith, ltb-true, lt-ltb, eqb-true, eq-eqb}
 use Rattle.std.proofs.lemmas.Bool.{and_parts, and_from, both_ways}
-use Rattle.rules.specs.Forms.{fields_of_form}
-use Rattle.rules.specs.Statements.{letter_of, fields_of}
+use Rattle.rules.specs.Forms.{FieldKinds, fields_of_form}
+use Rattle.rules.specs.Statements.{Fields, letter_of, fields_of}
 use Rattle.rules.specs.Limits.{within_limits}
 use Rattle.rules.specs.Refusals.{refusal}
 use Rattle.rules.specs.Fits.{count, FieldFits, field_fits, first_false, FormFits, WellFormed, wrong_by_form, wrong_in, fits, all_fit, refuse_field, statements_refusal, base_refusal, if_passed, pass}
 use Rattle.rules.specs.Places.{place, At}
 use Rattle.rules.specs.declared.forms.Kind.{Kind}
-use Rattle.rules.specs.declared.forms.FieldKinds.{FieldKinds}
 use Rattle.rules.specs.declared.refusals.Reason.TheVariants.{CountOutOfLimits}
-use Rattle.rules.specs.declared.statements.Fields.{Fields}
 use Rattle.rules.specs.declared.statements.Statement.{Statement}
 
 -- Every standing statement is well formed.

@@ -20,7 +20,7 @@
 use Rattle.std.specs.Prelude.{ℕ, ◌+◌, cond, List, [], ◌∷◌, Some, None, Option, ◌==◌}
 use Rattle.rules.specs.declared.forms.Kind.{Kind}
 use Rattle.rules.specs.declared.forms.Kind.TheVariants as k
-use Rattle.rules.specs.declared.forms.FieldKinds.{FieldKinds}
+use Rattle.rules.specs.declared.three.Three.{Three}
 
 abbrev pub individual : Option Kind
 individual = Some k.Individual
@@ -33,6 +33,10 @@ role = Some k.Role
 
 abbrev pub unused : Option Kind
 unused = None
+
+-- The kinds of a form's three fields.
+abbrev pub FieldKinds : Type 0
+FieldKinds = Three (Option Kind)
 
 -- A form by the code of its letter (97 is a, 113 is q) and the kinds of its fields.
 abbrev pub form : ℕ → Option Kind → Option Kind → Option Kind → ℕ × FieldKinds

@@ -1,9 +1,9 @@
 -- How a statement is spelt: the letter of its form and three numbers, 0 for a field that its form does not use.
 -- No two statements are spelt alike, and the spelling gives the statement back.
 use Rattle.std.specs.Prelude.{◌≡◌, ℕ, cond, Some, None, Option, ◌==◌}
-use Rattle.rules.specs.declared.statements.Fields.{Fields}
 use Rattle.rules.specs.declared.statements.Statement.{Statement}
 use Rattle.rules.specs.declared.statements.Statement.TheVariants as s
+use Rattle.rules.specs.declared.three.Three.{Three}
 
 -- The letters, by their codes: 97 is a, 113 is q.
 abbrev pub letter_of : Statement → ℕ
@@ -24,6 +24,10 @@ letter_of (s.Chain x y z) = 110
 letter_of (s.RoleBoth x y z) = 111
 letter_of (s.Product x y z) = 112
 letter_of (s.DomainRange x y z) = 113
+
+-- The three fields of a statement in order.
+abbrev pub Fields : Type 0
+Fields = Three ℕ
 
 abbrev pub three : ℕ → ℕ → ℕ → Fields
 three x y z = record { first = x; second = y; third = z }

@@ -3,11 +3,11 @@ ghost use Rattle.std.specs.Prelude.{◌≡◌};
 ghost use Rattle.rules.specs.Fits.{count, field_fits, wrong_field};
 
 use crate::counts::Counts;
-use crate::forms::{FieldKinds, Kind};
-use crate::statements::Fields;
+use crate::forms::Kind;
+use crate::three::Three;
 
 /// The first of the three fields that does not fit its kind, counted from 1.
-pub fn wrong_field(counts: Counts, kinds: FieldKinds, fields: Fields) -> Option<usize>
+pub fn wrong_field(counts: Counts, kinds: Three<Option<Kind>>, fields: Three<u16>) -> Option<usize>
     ensures { result ≡ wrong_field counts.individuals counts.classes counts.roles kinds fields }
 {
     if !field_fits(counts, kinds.first, fields.first) {

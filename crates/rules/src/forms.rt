@@ -3,6 +3,8 @@ ghost use Rattle.std.specs.Prelude.{◌≡◌};
 ghost use Rattle.rules.specs.Forms.{fields_of_form};
 ghost use Rattle.rules.specs.Limits.{most};
 
+use crate::three::Three;
+
 /// What a name is declared as.
 #[derive(Clone, Copy, PartialEq, Eq)]
 pub enum Kind {
@@ -24,46 +26,28 @@ impl Kind {
     }
 }
 
-/// The kinds of a form's three fields, `None` for a field not in use.
-#[derive(Clone, Copy, PartialEq, Eq)]
-pub struct FieldKinds {
-    pub first: Option<Kind>,
-    pub second: Option<Kind>,
-    pub third: Option<Kind>,
-}
-
-/// The kinds of the fields of the form with this letter; no form has another letter.
-pub fn field_kinds(letter: char) -> Option<FieldKinds>
+/// The kinds of the fields of the form with this letter, `None` for a field not in use; no form has another letter.
+pub fn field_kinds(letter: char) -> Option<Three<Option<Kind>>>
     ensures { result ≡ fields_of_form letter }
 {
     match letter {
-        'a' | 'f' => Some(kinds(Some(Kind::Individual), Some(Kind::Class), None)),
-        'b' => Some(kinds(
+        'a' | 'f' => Some(Three::new(Some(Kind::Individual), Some(Kind::Class), None)),
+        'b' => Some(Three::new(
             Some(Kind::Individual),
             Some(Kind::Role),
             Some(Kind::Individual),
         )),
-        'c' | 'd' => Some(kinds(Some(Kind::Class), None, None)),
-        'e' => Some(kinds(Some(Kind::Class), Some(Kind::Individual), None)),
-        'g' => Some(kinds(Some(Kind::Class), Some(Kind::Class), None)),
-        'h' => Some(kinds(Some(Kind::Class), Some(Kind::Class), Some(Kind::Class))),
-        'i' | 'q' => Some(kinds(Some(Kind::Role), Some(Kind::Class), Some(Kind::Class))),
-        'j' => Some(kinds(Some(Kind::Class), Some(Kind::Role), Some(Kind::Class))),
-        'k' => Some(kinds(Some(Kind::Role), Some(Kind::Class), None)),
-        'l' => Some(kinds(Some(Kind::Class), Some(Kind::Role), None)),
-        'm' => Some(kinds(Some(Kind::Role), Some(Kind::Role), None)),
-        'n' | 'o' => Some(kinds(Some(Kind::Role), Some(Kind::Role), Some(Kind::Role))),
-        'p' => Some(kinds(Some(Kind::Class), Some(Kind::Class), Some(Kind::Role))),
+        'c' | 'd' => Some(Three::new(Some(Kind::Class), None, None)),
+        'e' => Some(Three::new(Some(Kind::Class), Some(Kind::Individual), None)),
+        'g' => Some(Three::new(Some(Kind::Class), Some(Kind::Class), None)),
+        'h' => Some(Three::new(Some(Kind::Class), Some(Kind::Class), Some(Kind::Class))),
+        'i' | 'q' => Some(Three::new(Some(Kind::Role), Some(Kind::Class), Some(Kind::Class))),
+        'j' => Some(Three::new(Some(Kind::Class), Some(Kind::Role), Some(Kind::Class))),
+        'k' => Some(Three::new(Some(Kind::Role), Some(Kind::Class), None)),
+        'l' => Some(Three::new(Some(Kind::Class), Some(Kind::Role), None)),
+        'm' => Some(Three::new(Some(Kind::Role), Some(Kind::Role), None)),
+        'n' | 'o' => Some(Three::new(Some(Kind::Role), Some(Kind::Role), Some(Kind::Role))),
+        'p' => Some(Three::new(Some(Kind::Class), Some(Kind::Class), Some(Kind::Role))),
         _ => None,
-    }
-}
-
-fn kinds(first: Option<Kind>, second: Option<Kind>, third: Option<Kind>) -> FieldKinds
-    ensures { result ≡ record { first = first; second = second; third = third } }
-{
-    FieldKinds {
-        first,
-        second,
-        third,
     }
 }

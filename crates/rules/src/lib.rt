@@ -10,3 +10,4 @@ pub mod fields;
 pub mod forms;
 pub mod refusals;
 pub mod statements;
+pub mod three;

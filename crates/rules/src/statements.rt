@@ -2,6 +2,8 @@
 ghost use Rattle.std.specs.Prelude.{◌≡◌};
 ghost use Rattle.rules.specs.Statements.{letter_of, fields_of, statement_of, ToldApart};
 
+use crate::three::Three;
+
 /// A statement over the numbers of individuals, classes and roles, one variant for each form.
 #[derive(Clone, Copy, PartialEq, Eq)]
 pub enum Statement {
@@ -96,24 +98,6 @@ pub enum Statement {
         domain: u16,
         range: u16,
     },
-}
-
-/// The three fields of a statement in order, 0 for one not in use.
-#[derive(Clone, Copy, PartialEq, Eq)]
-pub struct Fields {
-    pub first: u16,
-    pub second: u16,
-    pub third: u16,
-}
-
-fn three(first: u16, second: u16, third: u16) -> Fields
-    ensures { result ≡ record { first = first; second = second; third = third } }
-{
-    Fields {
-        first,
-        second,
-        third,
-    }
 }
 
 impl Statement {
@@ -222,52 +206,52 @@ impl Statement {
     }
 
     /// Its three fields in order, 0 for one not in use; letter and fields together tell every statement apart.
-    pub fn fields(self) -> Fields
+    pub fn fields(self) -> Three<u16>
         ensures value { result ≡ fields_of self }
         ensures apart { ToldApart }
     {
         match self {
-            Statement::Member { individual, class } => three(individual, class, 0),
+            Statement::Member { individual, class } => Three::new(individual, class, 0),
             Statement::Related {
                 source,
                 role,
                 target,
-            } => three(source, role, target),
-            Statement::Empty { class } => three(class, 0, 0),
-            Statement::Universal { class } => three(class, 0, 0),
-            Statement::Only { class, individual } => three(class, individual, 0),
-            Statement::Nominal { individual, class } => three(individual, class, 0),
-            Statement::Subclass { sub, class } => three(sub, class, 0),
-            Statement::Both { left, right, class } => three(left, right, class),
+            } => Three::new(source, role, target),
+            Statement::Empty { class } => Three::new(class, 0, 0),
+            Statement::Universal { class } => Three::new(class, 0, 0),
+            Statement::Only { class, individual } => Three::new(class, individual, 0),
+            Statement::Nominal { individual, class } => Three::new(individual, class, 0),
+            Statement::Subclass { sub, class } => Three::new(sub, class, 0),
+            Statement::Both { left, right, class } => Three::new(left, right, class),
             Statement::Reaches {
                 role,
                 target,
                 class,
-            } => three(role, target, class),
+            } => Three::new(role, target, class),
             Statement::Requires {
                 class,
                 role,
                 target,
-            } => three(class, role, target),
-            Statement::SelfWithin { role, class } => three(role, class, 0),
-            Statement::SelfPaired { class, role } => three(class, role, 0),
-            Statement::Subrole { role, within } => three(role, within, 0),
+            } => Three::new(class, role, target),
+            Statement::SelfWithin { role, class } => Three::new(role, class, 0),
+            Statement::SelfPaired { class, role } => Three::new(class, role, 0),
+            Statement::Subrole { role, within } => Three::new(role, within, 0),
             Statement::Chain {
                 first,
                 second,
                 role,
-            } => three(first, second, role),
-            Statement::RoleBoth { left, right, role } => three(left, right, role),
+            } => Three::new(first, second, role),
+            Statement::RoleBoth { left, right, role } => Three::new(left, right, role),
             Statement::Product {
                 sources,
                 targets,
                 role,
-            } => three(sources, targets, role),
+            } => Three::new(sources, targets, role),
             Statement::DomainRange {
                 role,
                 domain,
                 range,
-            } => three(role, domain, range),
+            } => Three::new(role, domain, range),
         }
     }
 }

@@ -2,13 +2,12 @@ use Rattle.std.proofs.Common.{◌≡◌, ℕ, zero, suc, ◌+◌, ◌-◌, ◌<�
 use Rattle.std.specs.Str.{bytes_eq}
 use Rattle.std.proofs.lemmas.Slice.Eq.{bytes_eq-Decides}
 use Rattle.std.proofs.lemmas.Bool.{eqb-true}
-use Rattle.rules.specs.Forms.{fields_of_form, in_order, used}
+use Rattle.rules.specs.Forms.{FieldKinds, fields_of_form, in_order, used}
 use Rattle.rules.specs.Limits.{most, most_statements, within_limits}
 use Rattle.rules.specs.Refusals.{refusal as at}
 use Rattle.rules.specs.Statements.{statement_of}
 use Rattle.rules.specs.declared.forms.Kind.{Kind}
 use Rattle.rules.specs.declared.forms.Kind.TheVariants.{Individual, Class, Role}
-use Rattle.rules.specs.declared.forms.FieldKinds.{FieldKinds}
 use Rattle.rules.specs.declared.refusals.Refusal.{Refusal}
 use Rattle.rules.specs.declared.refusals.Reason.TheVariants as because
 use Rattle.rules.specs.declared.statements.Statement.{Statement}

@@ -3,11 +3,10 @@ use Rattle.std.proofs.Common.{◌≡◌, ℕ, Bool, true, false, cond, eqb, ◌�
 use Rattle.std.proofs.lemmas.Bool.{eqb-true, and_from}
 use Rattle.rules.specs.Fits.{count, FieldFits, FormFits, WellFormed, all_fit}
 use Rattle.rules.specs.Formed.{formed_fits}
-use Rattle.rules.specs.Forms.{fields_of_form, in_order}
+use Rattle.rules.specs.Forms.{FieldKinds, fields_of_form, in_order}
 use Rattle.rules.specs.Statements.{three, statement_of}
 use Rattle.rules.specs.declared.forms.Kind.{Kind}
 use Rattle.rules.specs.declared.forms.Kind.TheVariants.{Individual, Class, Role}
-use Rattle.rules.specs.declared.forms.FieldKinds.{FieldKinds}
 use Rattle.rules.specs.declared.statements.Statement.{Statement}
 use Rattle.rules.specs.declared.statements.Statement.TheVariants as s
 use Rattle.ruletext.specs.Outcome.{Contents, names, by_text}

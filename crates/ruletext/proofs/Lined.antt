@@ -7,10 +7,9 @@ use Rattle.rules.specs.declared.refusals.Refusal.{Refusal}
 use Rattle.rules.specs.declared.statements.Statement.{Statement}
 use Rattle.rules.specs.declared.forms.Kind.{Kind}
 use Rattle.reader.specs.Text.{words, proper, lines}
-use Rattle.rules.specs.Forms.{fields_of_form, in_order}
+use Rattle.rules.specs.Forms.{FieldKinds, fields_of_form, in_order}
 use Rattle.rules.specs.Limits.{most_statements, within_limits}
 use Rattle.rules.specs.declared.forms.Kind.TheVariants.{Individual, Class, Role}
-use Rattle.rules.specs.declared.forms.FieldKinds.{FieldKinds}
 use Rattle.ruletext.specs.Outcome.{Contents, declares, declared_kind, stating, added, then, check, by_kind, by_form, by_letter, by_first, only_letter, by_line, by_lines, counted, nothing, names}
 use Rattle.ruletext.specs.Reading.{spelt}
 use Rattle.reader.specs.declared.reader.Word.{Word}

@@ -1,10 +1,9 @@
 -- What holds of every text, said without following the reader line by line.
 use Rattle.std.specs.Prelude.{◌≡◌, ℕ, ◌-◌, ◌<◌, true, List, [], ◌∷◌, length, get_or, Some, None, Option, ◌≢◌, slice_index, slice_index_or}
-use Rattle.rules.specs.Forms.{fields_of_form, in_order}
+use Rattle.rules.specs.Forms.{FieldKinds, fields_of_form, in_order}
 use Rattle.rules.specs.Limits.{within_limits}
 use Rattle.rules.specs.Statements.{statement_of}
 use Rattle.rules.specs.declared.forms.Kind.{Kind}
-use Rattle.rules.specs.declared.forms.FieldKinds.{FieldKinds}
 use Rattle.rules.specs.declared.statements.Statement.{Statement}
 use Rattle.reader.specs.Cut.{Each}
 use Rattle.reader.specs.Text.{lines, words, is_name}

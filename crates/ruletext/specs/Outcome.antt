@@ -12,13 +12,12 @@
 --   8  too few names at the end                            line 0, word 0
 use Rattle.std.specs.Prelude.{ℕ, ◌+◌, Bool, true, false, cond, List, [], ◌∷◌, ◌++◌, length, is_some, Some, None, Ok, Err, Option, Result, ◌==◌, nat_lt, slice_index}
 use Rattle.std.specs.Str.{bytes_eq}
-use Rattle.rules.specs.Forms.{fields_of_form, in_order, used}
+use Rattle.rules.specs.Forms.{FieldKinds, fields_of_form, in_order, used}
 use Rattle.rules.specs.Limits.{most, most_statements, within_limits}
 use Rattle.rules.specs.Refusals.{refusal as at}
 use Rattle.rules.specs.Statements.{statement_of}
 use Rattle.rules.specs.declared.forms.Kind.{Kind}
 use Rattle.rules.specs.declared.forms.Kind.TheVariants as k
-use Rattle.rules.specs.declared.forms.FieldKinds.{FieldKinds}
 use Rattle.rules.specs.declared.refusals.Refusal.{Refusal}
 use Rattle.rules.specs.declared.refusals.Reason.TheVariants as because
 use Rattle.rules.specs.declared.statements.Statement.{Statement}

@@ -4,8 +4,9 @@ ghost use Rattle.rules.specs.Forms.{used as usedOf};
 ghost use Rattle.rules.specs.Refusals.{refusal};
 ghost use Rattle.ruletext.specs.Outcome.{declared_kind, only_letter};
 
-use rules::forms::{FieldKinds, Kind};
+use rules::forms::Kind;
 use rules::refusals::{Reason, Refusal};
+use rules::three::Three;
 
 pub(crate) fn refused_at(reason: Reason, line: usize, word: usize) -> Refusal
     ensures { result ≡ refusal reason line word }
@@ -50,7 +51,7 @@ fn in_use(kind: Option<Kind>) -> usize
 }
 
 // How many fields a form has.
-pub(crate) fn used(kinds: FieldKinds) -> usize
+pub(crate) fn used(kinds: Three<Option<Kind>>) -> usize
     ensures { result ≡ usedOf (kinds.first ∷ kinds.second ∷ kinds.third ∷ []) }
 {
     in_use(kinds.first) + in_use(kinds.second) + in_use(kinds.third)

@@ -20,9 +20,10 @@ use reader::reader::{Reader, Word};
 use roles::admissible::first_breaking;
 use rules::base::RuleBase;
 use rules::counts::Counts;
-use rules::forms::{FieldKinds, Kind, field_kinds};
+use rules::forms::{Kind, field_kinds};
 use rules::refusals::{Reason, Refusal};
 use rules::statements::Statement;
+use rules::three::Three;
 use std::alloc::{AllocError, Global};
 
 // The place of a name among those declared.
@@ -77,7 +78,11 @@ impl<'a> Rules<'a> {
     }
 
     // The numbers of three fields, from the words that are left.
-    fn fields(&self, kinds: FieldKinds, mut line: Reader<'a>) -> Result<(u16, u16, u16), Refusal>
+    fn fields(
+        &self,
+        kinds: Three<Option<Kind>>,
+        mut line: Reader<'a>,
+    ) -> Result<(u16, u16, u16), Refusal>
         ensures { MatchResult result (λ p. numbers line.entry.line (line.entry.word + 1) (contents self.now) (in_order kinds) (words line.entry.here.now) ≡ Ok (p.0 ∷ p.1 ∷ p.2 ∷ [])) (λ e. numbers line.entry.line (line.entry.word + 1) (contents self.now) (in_order kinds) (words line.entry.here.now) ≡ Err e) }
     {
         let a = self.field(kinds.first, &mut line)?;
@@ -113,7 +118,7 @@ impl<'a> Rules<'a> {
     fn stated(
         &self,
         letter: char,
-        kinds: FieldKinds,
+        kinds: Three<Option<Kind>>,
         line: Reader<'a>,
     ) -> Result<Statement, Refusal>
         requires second { line.word ≡ 1 }
