@@ -19,8 +19,8 @@ use Rattle.intake.specs.Taken.{Taken}
 use Rattle.intake.proofs.One.{one_header}
 use Rattle.matching.specs.Complete.{Good, AllGood, entries_in, Complete}
 use Rattle.matching.specs.Matched.{Lacks, Next, too_small, WentOver, bad_entry, no_room, fact_missing, all_there, Compared, file_refused, limit_low, other_header, by_entries, ComparedWith, Matched, header_refused, header_accepted, Promise}
-use Rattle.matching.specs.declared.verdict.Verdict.{Verdict}
-use Rattle.matching.specs.declared.verdict.Verdict.TheVariants.{Yes, No}
+use Rattle.recovery.specs.declared.entries.Verdict.{Verdict}
+use Rattle.recovery.specs.declared.entries.Verdict.TheVariants.{Yes, No}
 use Rattle.matching.proofs.Goods.{Fine, treed_none, all_one, cut_at, all_long}
 use Rattle.matching.proofs.Holding.{holds_none}
 

@@ -10,8 +10,8 @@ use Rattle.recovery.specs.Recovery.{recovery_refusal}
 use Rattle.intake.proofs.One.{one_header}
 use Rattle.matching.specs.Complete.{Good, AllGood}
 use Rattle.matching.specs.Matched.{Lacks, too_small, WentOver, bad_entry, no_room, fact_missing, all_there, Compared, file_refused, limit_low, other_header, by_entries, ComparedWith, header_refused, header_accepted, OneAnswer}
-use Rattle.matching.specs.declared.verdict.Verdict.{Verdict}
-use Rattle.matching.specs.declared.verdict.Verdict.TheVariants.{Yes, No}
+use Rattle.recovery.specs.declared.entries.Verdict.{Verdict}
+use Rattle.recovery.specs.declared.entries.Verdict.TheVariants.{Yes, No}
 use Rattle.matching.proofs.Goods.{Fine, treed_none, all_one, cut_at, all_long}
 use Rattle.matching.proofs.Kept.{header_fine}
 

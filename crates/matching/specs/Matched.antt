@@ -16,8 +16,8 @@ use Rattle.headers.specs.Header.{Header, part}
 use Rattle.recovery.specs.Recovery.{recovery_refusal}
 use Rattle.intake.specs.Outcomes.{HeaderMeans}
 use Rattle.matching.specs.Complete.{Good, AllGood, entries_in, Complete}
-use Rattle.matching.specs.declared.verdict.Verdict.{Verdict}
-use Rattle.matching.specs.declared.verdict.Verdict.TheVariants.{Yes, No}
+use Rattle.recovery.specs.declared.entries.Verdict.{Verdict}
+use Rattle.recovery.specs.declared.entries.Verdict.TheVariants.{Yes, No}
 
 -- The set of a store is the numbers of these facts, and no others.
 abbrev pub HoldsExactly : (n k r : ℕ) → (ℕ → Bool) → List Fact → Type 0

@@ -2,14 +2,14 @@
 ghost use Rattle.std.specs.Prelude.{◌≡◌, length};
 ghost use Rattle.matching.specs.Matched.{Compared, Matched, OneAnswer, Promise};
 
-use crate::judge::{judge_entries, store_too_small};
-use crate::verdict::Verdict;
+use crate::judge::judge_part;
 use calculus::numbers::fact_limit;
 use intake::header::take_header;
 use marks::store::MarkStore;
+use recovery::entries::Verdict;
 use recovery::read::read_recovery;
 use rules::base::RuleBase;
-use rules::refusals::Refusal;
+use rules::refusals::{Reason, Refusal};
 use rules::statements::Statement;
 
 // The file with an accepted header: a refusal of the file or the store, or no at 0, or what the entries say.
@@ -26,11 +26,15 @@ fn compare<S: MarkStore>(
 {
     let parts = read_recovery(file)?;
     if store.limit() < fact_limit(base.counts) {
-        return Err(store_too_small());
+        return Err(Refusal {
+            reason: Reason::StoreTooSmall,
+            place: 0,
+            item: 0,
+        });
     }
     store.clear();
     if parts.header == header {
-        judge_entries(base, parts.entries, store)
+        judge_part(base, parts.entries, store)
     } else {
         Ok(Verdict::No(0))
     }

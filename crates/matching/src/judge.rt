@@ -1,68 +1,72 @@
-// Going over the entries of a recovery file, with the facts of the good ones put into a store.
-ghost use Rattle.std.specs.Prelude.{◌≡◌, ℕ, ◌+◌, ◌<◌, ◌≤◌, true, false, MatchOption};
-ghost use Rattle.marks.specs.Sets.{Member};
-ghost use Rattle.marks.specs.Trees.{Closed, Missing};
+// Judging the entries of a recovery file, with the facts of the good ones put into a store.
+ghost use Rattle.std.specs.Prelude.{◌≡◌, ℕ, ◌+◌, ◌<◌, ◌≤◌, false, MatchOption};
+ghost use Rattle.marks.specs.Sets.{Member, tally};
+ghost use Rattle.marks.specs.Trees.{Closed};
 ghost use Rattle.calculus.specs.Numbers.{fact_limit};
 ghost use Rattle.headers.specs.Bytes.{cut};
 ghost use Rattle.reasoner.specs.Theorems.{NumberSteps};
-ghost use Rattle.matching.specs.Going.{GoodNumber, BadByHeld};
-ghost use Rattle.matching.specs.Matched.{WentOver, too_small};
+ghost use Rattle.matching.specs.Going.{GivenNumber, NoneGiven, GoodHere, KeptHere, Lacking, Stays};
+ghost use Rattle.matching.specs.Matched.{WentOver};
 
 use crate::entry::read_entry;
-use crate::verdict::Verdict;
 use calculus::numbers::number_of;
 use grounds::check::gives;
 use marks::rules::RuleSet;
 use marks::store::{MarkStore, Put};
 use reasoner::book::BookRules;
-use recovery::entry::{Entry, cut_entry};
+use recovery::entries::{Judge, Judged, Verdict, judge_entries};
+use recovery::entry::Entry;
 use rules::base::RuleBase;
-use rules::refusals::{Reason, Refusal};
+use rules::refusals::Refusal;
 
-// The refusal of a store.
-pub(crate) fn store_too_small() -> Refusal
-    ensures { result ≡ too_small }
+// The number of the fact that an entry tells, if its ground gives that fact from held ones.
+fn given_number<S: MarkStore>(base: RuleBase<'_>, store: &S, entry: Entry) -> Option<u64>
+    ensures { MatchOption result (NoneGiven base.entry.counts.individuals base.entry.counts.classes base.entry.counts.roles base.entry.statements.now (S.MarkStore.held store.now) entry) (λ m. GivenNumber base.entry.counts.individuals base.entry.counts.classes base.entry.counts.roles base.entry.statements.now (S.MarkStore.held store.now) entry m) }
 {
-    Refusal {
-        reason: Reason::StoreTooSmall,
-        place: 0,
-        item: 0,
+    let told = read_entry(base.counts, entry)?;
+    let number = number_of(base.counts, told.fact)?;
+    gives(base, store, told.fact, told.ground).then_some(number)
+}
+
+// Judges entries by a rule base, and keeps the facts of the good ones in a store.
+#[derive(Drop)]
+struct BookJudge<'b, 's, S: MarkStore> {
+    base: RuleBase<'b>,
+    store: &'s mut S,
+}
+
+impl<'b, 's, S: MarkStore> Judge for BookJudge<'b, 's, S> {
+    ghost good = { λ j e. GoodHere j.base (S.MarkStore.held j.store.now) (S.MarkStore.limit j.store.now) e };
+
+    ghost full = { λ j. S.MarkStore.capacity j.store.now ≤ tally (S.MarkStore.held j.store.now) (S.MarkStore.limit j.store.now) };
+
+    ghost whole = { λ j. Closed (NumberSteps j.base.counts.individuals j.base.counts.classes j.base.counts.roles j.base.statements.now) (Member (S.MarkStore.held j.store.now)) };
+
+    ghost lacks = { λ j. Lacking (NumberSteps j.base.counts.individuals j.base.counts.classes j.base.counts.roles j.base.statements.now) (S.MarkStore.held j.store.now) };
+
+    ghost keeps = { λ j e i. KeptHere j.base (S.MarkStore.held j.store.now) e (S.MarkStore.held i.store.now) × Stays j.base i.base (S.MarkStore.limit j.store.now) (S.MarkStore.limit i.store.now) (S.MarkStore.capacity j.store.now) (S.MarkStore.capacity i.store.now) (S.MarkStore.lent j.store.now) (S.MarkStore.lent i.store.now) j.store.ghost_name i.store.ghost_name };
+
+    ghost alike = { λ j i. ((x : ℕ) → S.MarkStore.held i.store.now x ≡ S.MarkStore.held j.store.now x) × Stays j.base i.base (S.MarkStore.limit j.store.now) (S.MarkStore.limit i.store.now) (S.MarkStore.capacity j.store.now) (S.MarkStore.capacity i.store.now) (S.MarkStore.lent j.store.now) (S.MarkStore.lent i.store.now) j.store.ghost_name i.store.ghost_name };
+
+    fn judge(&mut self, entry: Entry) -> Judged {
+        let Some(number) = given_number(self.base, self.store, entry) else {
+            return Judged::Bad;
+        };
+        match self.store.put(number) {
+            Put::Added => Judged::Good,
+            Put::Full => Judged::Full,
+            Put::Held => Judged::Bad,
+            Put::Outside => Judged::Bad,
+        }
+    }
+
+    fn is_whole(&self) -> bool {
+        BookRules::over(self.base).missing(self.store, 0).is_none()
     }
 }
 
-// The number of the fact of a good entry, `None` for a bad one.
-fn good_number<S: MarkStore>(base: RuleBase<'_>, store: &S, entry: Entry) -> Option<u64>
-    ensures { MatchOption result (BadByHeld base.entry.counts.individuals base.entry.counts.classes base.entry.counts.roles base.entry.statements.now (S.MarkStore.held store.now) entry) (λ m. GoodNumber base.entry.counts.individuals base.entry.counts.classes base.entry.counts.roles base.entry.statements.now (S.MarkStore.held store.now) entry m) }
-{
-    let Some(told) = read_entry(base.counts, entry) else {
-        return None;
-    };
-    let Some(number) = number_of(base.counts, told.fact) else {
-        return None;
-    };
-    if store.has(number) {
-        return None;
-    }
-    if !gives(base, store, told.fact, told.ground) {
-        return None;
-    }
-    Some(number)
-}
-
-// A number that follows from the held ones and is not held.
-fn missing_number<S: MarkStore>(base: RuleBase<'_>, store: &S) -> Option<u64>
-    ensures { MatchOption result (Closed (NumberSteps base.entry.counts.individuals base.entry.counts.classes base.entry.counts.roles base.entry.statements.now) (Member (S.MarkStore.held store.now))) (λ x. Missing (NumberSteps base.entry.counts.individuals base.entry.counts.classes base.entry.counts.roles base.entry.statements.now) (S.MarkStore.held store.now) x) }
-{
-    let rules = BookRules::over(base);
-    match rules.missing(store, 0) {
-        Some(found) => Some(found.number),
-        None => None,
-    }
-}
-
-// Goes over the entries of a part: no at the first bad one, a refusal where a good one finds no room, and after the last
-// one yes, or no at the next place if a fact is missing.
-pub(crate) fn judge_entries<S: MarkStore>(
+// Goes over the entries of a part, whose good ones put their facts into the empty store.
+pub(crate) fn judge_part<S: MarkStore>(
     base: RuleBase<'_>,
     part: &[u8],
     store: &mut S,
@@ -74,20 +78,6 @@ pub(crate) fn judge_entries<S: MarkStore>(
     ensures capacity_kept { S.MarkStore.capacity store.new ≡ S.MarkStore.capacity store.old }
     ensures lent_kept { S.MarkStore.lent store.new ≡ S.MarkStore.lent store.old }
 {
-    let mut rest = part;
-    let mut place = 1;
-    while let Some(next) = cut_entry(rest) {
-        let Some(number) = good_number(base, store, next.entry) else {
-            return Ok(Verdict::No(place));
-        };
-        if let Put::Full = store.put(number) {
-            return Err(store_too_small());
-        }
-        rest = next.rest;
-        place += 1;
-    }
-    match missing_number(base, store) {
-        Some(_) => Ok(Verdict::No(place)),
-        None => Ok(Verdict::Yes),
-    }
+    let mut judge = BookJudge { base, store };
+    judge_entries(&mut judge, part)
 }

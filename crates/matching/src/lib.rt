@@ -7,4 +7,3 @@
 pub mod entry;
 pub mod file;
 mod judge;
-pub mod verdict;

@@ -1,8 +1,10 @@
 // Going over the entries of a recovery file, by a judge of entries.
-ghost use Rattle.std.specs.Prelude.{◌≡◌, ℕ, ◌+◌, ◌<◌, ◌≤◌, Bool, true, false, cond, List, [], ◌∷◌, ◌++◌, length};
+ghost use Rattle.std.specs.Prelude.{◌≡◌, ◌+◌, ◌<◌, ◌≤◌, true, false, length};
 ghost use Rattle.headers.specs.Bytes.{cut};
-ghost use Rattle.recovery.specs.Entries.{judged, kept_with, verdict, kept_of};
+ghost use Rattle.recovery.specs.declared.entry.Entry.{Entry};
+ghost use Rattle.recovery.specs.Entries.{Judges, Gone};
 
+use crate::entry::{Entry, cut_entry};
 use rules::refusals::{Reason, Refusal};
 
 /// What going over the entries answers: yes, or no with a place.
@@ -22,36 +24,36 @@ pub enum Judged {
 
 /// Judges entries one after the other, and keeps the good ones.
 pub trait Judge {
-    // the entries that are kept so far
-    ghost seen: { Self → List (List ℕ) };
-    // whether an entry is good after others
-    ghost good: { Self → List (List ℕ) → List ℕ → Bool };
-    // whether there is no room for another entry after these
-    ghost full: { Self → List (List ℕ) → Bool };
-    // whether no fact is missing from these
-    ghost whole: { Self → List (List ℕ) → Bool };
+    // whether an entry is good, where a judge stands so
+    ghost good: { Self → Entry → Type 0 };
+    // whether there is no room to keep another
+    ghost full: { Self → Type 0 };
+    // whether no fact is missing from what is kept
+    ghost whole: { Self → Type 0 };
+    // whether one is
+    ghost lacks: { Self → Type 0 };
+    // a judge, an entry, and the judge once it has kept it
+    ghost keeps: { Self → Entry → Self → Type 0 };
+    // a judge, and one that stands as it does
+    ghost alike: { Self → Self → Type 0 };
 
-    fn judge(&mut self, entry: &[u8]) -> Judged
-        ensures answer { result ≡ judged (good self.old (seen self.old) entry.now) (full self.old (seen self.old)) }
-        ensures seen { seen self.new ≡ kept_with result (seen self.old) entry.now }
-        ensures good { good self.new ≡ good self.old }
-        ensures full { full self.new ≡ full self.old }
-        ensures whole { whole self.new ≡ whole self.old };
+    fn judge(&mut self, entry: Entry) -> Judged
+        ensures { Judges (good self.old entry) (full self.old) (keeps self.old entry self.new) (alike self.old self.new) result };
 
     fn is_whole(&self) -> bool
-        ensures { result ≡ whole self.now (seen self.now) };
+        ensures whole { result ≡ true → whole self.now }
+        ensures lacks { result ≡ false → lacks self.now };
 }
 
 /// Goes over the entries of a part: no at the first bad one, a refusal where a good one finds no room, and after the last
 /// one yes, or no at the next place if a fact is missing.
 pub fn judge_entries<J: Judge>(judge: &mut J, part: &[u8]) -> Result<Verdict, Refusal>
-    ensures answer { result ≡ verdict (J.Judge.good judge.old) (J.Judge.full judge.old) (J.Judge.whole judge.old) (J.Judge.seen judge.old) 1 (cut 14 part.now) }
-    ensures kept { J.Judge.seen judge.new ≡ kept_of (J.Judge.good judge.old) (J.Judge.full judge.old) (J.Judge.seen judge.old) (cut 14 part.now) }
+    ensures { Gone J.Judge.good J.Judge.full J.Judge.whole J.Judge.lacks J.Judge.keeps J.Judge.alike (cut 14 part.now) 1 judge.old judge.new result }
 {
     let mut rest = part;
     let mut place = 1;
-    while rest.len() >= 14 {
-        match judge.judge(&rest[0..14]) {
+    while let Some(next) = cut_entry(rest) {
+        match judge.judge(next.entry) {
             Judged::Good => {}
             Judged::Bad => return Ok(Verdict::No(place)),
             Judged::Full => {
@@ -62,7 +64,7 @@ pub fn judge_entries<J: Judge>(judge: &mut J, part: &[u8]) -> Result<Verdict, Re
                 });
             }
         }
-        rest = &rest[14..rest.len()];
+        rest = next.rest;
         place += 1;
     }
     if judge.is_whole() {

@@ -15,7 +15,7 @@ pub returns-then-limit-fact_limit : goal.returns-then-limit-fact_limit
 returns-then-limit-fact_limit g c =
     let right = c.in_ok-parts.ensures in
     record {
-      compared = by_limit _ _ _ _ _ _ _ _ _ _ c.store_too_small.result c.store_too_small.ensures right.right c.fact_limit.result c.fact_limit.ensures (omega (arith, c.limit.ensures)) refl;
+      compared = by_limit _ _ _ _ _ _ _ _ _ _ _ refl right.right c.fact_limit.result c.fact_limit.ensures (omega (arith, c.limit.ensures)) refl;
       limit_kept = refl;
       capacity_kept = refl;
       lent_kept = refl;
@@ -25,9 +25,9 @@ pub returns-then-eq : goal.returns-then-eq
 returns-then-eq g c =
     let parts = c.in_ok-parts.ensures in
     let clear = c.clear.ensures in
-    let judged = c.judge_entries.ensures in
+    let judged = c.judge_part.ensures in
     record {
-      compared = by_going _ _ _ _ _ _ _ _ _ _ _ _ parts (omega (arith, c.limit.ensures, c.fact_limit.ensures)) c.judge_entries.result _ ((slice_eq-Decides Decides-eqb _ _ _ c.eq.ensures).0 c.if-eq.true) clear.capacity_kept judged.went;
+      compared = by_going _ _ _ _ _ _ _ _ _ _ _ _ parts (omega (arith, c.limit.ensures, c.fact_limit.ensures)) c.judge_part.result _ ((slice_eq-Decides Decides-eqb _ _ _ c.eq.ensures).0 c.if-eq.true) clear.capacity_kept judged.went;
       limit_kept = judged.limit_kept ∙ clear.limit_kept;
       capacity_kept = judged.capacity_kept ∙ clear.capacity_kept;
       lent_kept = judged.lent_kept ∙ clear.lent_kept;

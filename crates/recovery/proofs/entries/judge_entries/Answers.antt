@@ -1,49 +1,29 @@
-use Rattle.std.proofs.Common.{◌-◌, length, take, drop, sym, refl, ap, ◌∙◌, arith, length-drop}
-use Rattle.std.proofs.lemmas.List.{take_rest}
-use Rattle.recovery.proofs.Verdicts.{good_verdict, good_kept, bad_verdict, bad_kept, full_verdict, full_kept}
+use Rattle.std.proofs.Common.{length, ap, arith, length-append}
+use Rattle.recovery.specs.Begun.{entry_bytes}
+use Rattle.recovery.specs.Entries.{at_bad, at_full, past_good, at_lack, at_end}
+use Rattle.recovery.proofs.Verdicts.{comes, cut_none}
 use Rattle.recovery.proofs.entries.judge_entries.Goals as goal
-
-pub loop-rest-preserved : goal.loop-rest-preserved
-loop-rest-preserved g c =
-    let k = g.J.Judge in
-    let o = c.args.judge.now in
-    let m = c.loop-rest.judge in
-    let i = c.loop-rest.invariant in
-    let b = c.loop-rest.rest.now in (
-      i.0 ∙ good_verdict (k.good o) (k.good m) (k.full o) (k.full m) (k.whole o) (k.seen m) (k.seen c.judge.new.self) c.loop-rest.place b (take 14 b) (take (length b - 14) (drop 14 b)) c.judge.result
-          c.loop-rest-test.true i.2 i.3 refl (take_rest b 14) c.judge.ensures.answer c.judge.ensures.seen c.in-Good.is,
-      i.1 ∙ good_kept (k.good o) (k.good m) (k.full o) (k.full m) (k.whole o) (k.seen m) (k.seen c.judge.new.self) c.loop-rest.place b (take 14 b) (take (length b - 14) (drop 14 b)) c.judge.result
-          c.loop-rest-test.true i.2 i.3 refl (take_rest b 14) c.judge.ensures.answer c.judge.ensures.seen c.in-Good.is,
-      c.judge.ensures.good ∙ i.2,
-      c.judge.ensures.full ∙ i.3,
-      c.judge.ensures.whole ∙ i.4,
-      omega (arith, ap length (take_rest b 14), length-drop 14 b, i.5, c.loop-rest-test.true),
-    )
 
 pub returns-in-Bad : goal.returns-in-Bad
 returns-in-Bad g c =
-    let k = g.J.Judge in
-    let o = c.args.judge.now in
-    let m = c.loop-rest.judge in
-    let i = c.loop-rest.invariant in
-    let b = c.loop-rest.rest.now in
-    record {
-      answer = sym (i.0 ∙ bad_verdict (k.good o) (k.good m) (k.full o) (k.full m) (k.whole o) (k.seen m) (k.seen c.judge.new.self) c.loop-rest.place b (take 14 b) (drop 14 b) c.judge.result
-          c.loop-rest-test.true i.2 i.3 refl refl c.judge.ensures.answer c.judge.ensures.seen c.in-Bad.is);
-      kept = sym (i.1 ∙ bad_kept (k.good o) (k.good m) (k.full o) (k.full m) (k.whole o) (k.seen m) (k.seen c.judge.new.self) c.loop-rest.place b (take 14 b) (drop 14 b) c.judge.result
-          c.loop-rest-test.true i.2 i.3 refl refl c.judge.ensures.answer c.judge.ensures.seen c.in-Bad.is);
-    }
+    let said = c.in-Bad.ensures in
+    c.loop-next.invariant.goes_on _ _ (at_bad (comes _ _ _ c.in-Some.ensures) said.0 said.1)
 
 pub returns-in-Full : goal.returns-in-Full
 returns-in-Full g c =
-    let k = g.J.Judge in
-    let o = c.args.judge.now in
-    let m = c.loop-rest.judge in
-    let i = c.loop-rest.invariant in
-    let b = c.loop-rest.rest.now in
-    record {
-      answer = sym (i.0 ∙ full_verdict (k.good o) (k.good m) (k.full o) (k.full m) (k.whole o) (k.seen m) (k.seen c.judge.new.self) c.loop-rest.place b (take 14 b) (drop 14 b) c.judge.result
-          c.loop-rest-test.true i.2 i.3 refl refl c.judge.ensures.answer c.judge.ensures.seen c.in-Full.is);
-      kept = sym (i.1 ∙ full_kept (k.good o) (k.good m) (k.full o) (k.full m) (k.whole o) (k.seen m) (k.seen c.judge.new.self) c.loop-rest.place b (take 14 b) (drop 14 b) c.judge.result
-          c.loop-rest-test.true i.2 i.3 refl refl c.judge.ensures.answer c.judge.ensures.seen c.in-Full.is);
+    let said = c.in-Full.ensures in
+    c.loop-next.invariant.goes_on _ _ (at_full (comes _ _ _ c.in-Some.ensures) said.0 said.1 said.2)
+
+pub loop-next-preserved : goal.loop-next-preserved
+loop-next-preserved g c =
+    let said = c.in-Good.ensures in
+    let i = c.loop-next.invariant in record {
+      goes_on = λ j o others. i.goes_on j o (past_good (comes _ _ _ c.in-Some.ensures) said.0 said.1 said.2 others);
+      short = omega (arith, i.short, ap length c.in-Some.ensures.is, length-append (entry_bytes c.in-Some.next.entry) c.in-Some.next.rest.now);
     }
+
+pub returns-then-is_whole : goal.returns-then-is_whole
+returns-then-is_whole g c = c.loop-next.invariant.goes_on _ _ (rw (cut_none _ c.in_default.ensures) (at_end (c.is_whole.ensures.whole c.if-is_whole.true)))
+
+pub returns-else-is_whole : goal.returns-else-is_whole
+returns-else-is_whole g c = c.loop-next.invariant.goes_on _ _ (rw (cut_none _ c.in_default.ensures) (at_lack (c.is_whole.ensures.lacks c.if-is_whole.false)))
