@@ -54,7 +54,7 @@ fn bytes_of(rt: &HostRuntime, line: &[u8]) -> io::Result<Vec<u8>> {
 }
 
 fn print_refusal(rt: &HostRuntime, number: usize, refusal: Refusal) -> io::Result<()> {
-    let reason = refusal.reason.number();
+    let reason = u8::from(refusal.reason);
     let place = refusal.place;
     let field = refusal.item;
     println!(rt; "{number} refused {reason} place {place} field {field}")

@@ -32,7 +32,7 @@ fn print_refusal(
     refusal: Refusal,
     output: &[u8],
 ) -> io::Result<()> {
-    let reason = refusal.reason.number();
+    let reason = u8::from(refusal.reason);
     let line = refusal.place;
     let word = refusal.item;
     let kept = is_blank(output);

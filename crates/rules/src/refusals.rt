@@ -13,43 +13,43 @@ pub enum Layer {
     Output,
 }
 
-/// Why a call is refused.
+/// Why a call is refused, with the number that people are told.
 #[derive(Clone, Copy, PartialEq, Eq)]
 pub enum Reason {
     /// A byte that no line may have, or a line of over 120 bytes.
-    ImproperLine,
+    ImproperLine = 1,
     /// A letter that no line or form has.
-    UnknownLetter,
+    UnknownLetter = 2,
     /// More or fewer words than the letter asks for.
-    WrongWordCount,
+    WrongWordCount = 3,
     /// A word after the letter that is no name.
-    NotAName,
+    NotAName = 4,
     /// A name that is declared already in its kind.
-    DeclaredBefore,
+    DeclaredBefore = 5,
     /// A name that is not declared above.
-    NotDeclared,
+    NotDeclared = 6,
     /// A field not below its count, or not in use and not 0.
-    WrongField,
+    WrongField = 7,
     /// A count that leaves its limits.
-    CountOutOfLimits,
+    CountOutOfLimits = 8,
     /// Statements that would not be admissible.
-    NotAdmissible,
+    NotAdmissible = 9,
     /// No statement stands at the place.
-    NoSuchPlace,
+    NoSuchPlace = 10,
     /// The book is not finished, or has no header.
-    NotReady,
+    NotReady = 11,
     /// An individual or a class not below its count.
-    NoSuchNumber,
+    NoSuchNumber = 12,
     /// A directory that does not describe its file.
-    WrongDirectory,
+    WrongDirectory = 13,
     /// Names, statements or entries that are not as their format asks.
-    WrongContent,
+    WrongContent = 14,
     /// A mark store that is too small, or full.
-    StoreTooSmall,
+    StoreTooSmall = 15,
     /// An output that is too short, or a length past 32 bits.
-    OutputTooShort,
+    OutputTooShort = 16,
     /// A header with other counts or statements than the book.
-    OtherDeclarations,
+    OtherDeclarations = 17,
 }
 
 /// A refusal: why, the line, part or place it is about, and the word or field there, which count from 1; 0 where there is none.
@@ -61,31 +61,6 @@ pub struct Refusal {
 }
 
 impl Reason {
-    /// The number that people are told.
-    pub fn number(self) -> u8
-        ensures { result ≡ number_of self }
-    {
-        match self {
-            Reason::ImproperLine => 1,
-            Reason::UnknownLetter => 2,
-            Reason::WrongWordCount => 3,
-            Reason::NotAName => 4,
-            Reason::DeclaredBefore => 5,
-            Reason::NotDeclared => 6,
-            Reason::WrongField => 7,
-            Reason::CountOutOfLimits => 8,
-            Reason::NotAdmissible => 9,
-            Reason::NoSuchPlace => 10,
-            Reason::NotReady => 11,
-            Reason::NoSuchNumber => 12,
-            Reason::WrongDirectory => 13,
-            Reason::WrongContent => 14,
-            Reason::StoreTooSmall => 15,
-            Reason::OutputTooShort => 16,
-            Reason::OtherDeclarations => 17,
-        }
-    }
-
     /// Where it arises.
     pub fn layer(self) -> Layer
         ensures { result ≡ layer_of self }
@@ -128,5 +103,14 @@ impl From<Reason> for Refusal {
     /// The refusal for a reason that is about no place.
     fn from(reason: Reason) -> Refusal {
         reason.at(0, 0)
+    }
+}
+
+impl From<Reason> for u8 {
+    ghost from_gives = { λ r n. n ≡ number_of r };
+
+    /// The number that people are told.
+    fn from(reason: Reason) -> u8 {
+        reason as u8
     }
 }

@@ -56,7 +56,7 @@ impl fmt::Display for Verdict {
                 )
             }
             Verdict::Refused(refusal) => {
-                let number = refusal.reason.number();
+                let number = u8::from(refusal.reason);
                 let line = refusal.place;
                 let word = refusal.item;
                 write!(f, "fault {number} line {line} word {word}")

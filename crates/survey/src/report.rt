@@ -87,7 +87,7 @@ impl fmt::Display for Survey {
             }
             Survey::Full => write!(f, "full"),
             Survey::Refused(refusal) => {
-                let number = refusal.reason.number();
+                let number = u8::from(refusal.reason);
                 let line = refusal.place;
                 let word = refusal.item;
                 write!(f, "fault {number} line {line} word {word}")
