@@ -3,3 +3,4 @@ pub mod Steps
 pub mod Filling
 pub mod Numbering
 pub mod Adding
+pub mod Rounds
