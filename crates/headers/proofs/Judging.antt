@@ -1,5 +1,5 @@
 -- The contents of four parts, and what follows from them.
-use Rattle.std.proofs.Common.{◌≡◌, ℕ, ◌/◌, Bool, true, false, cond, List, length, Some, None, Ok, Err, Option, Result, sym, ap, ◌∙◌, arith}
+use Rattle.std.proofs.Common.{◌≡◌, ℕ, ◌/◌, Bool, true, false, cond, List, length, Some, None, Ok, Err, Option, Result, sym, refl, ap, ◌∙◌, arith}
 use Rattle.rules.specs.Limits.{within_limits}
 use Rattle.rules.specs.Refusals.{refusal}
 use Rattle.rules.specs.declared.refusals.Reason.TheVariants.{WrongContent, CountOutOfLimits}
@@ -11,20 +11,26 @@ use Rattle.headers.specs.Records.{is_record, records_refusal}
 use Rattle.std.proofs.lemmas.Bool.{and_parts}
 use Rattle.headers.specs.Header.{Header, are_records, records_in, content_refusal, judgement, holding, refuse, judged, of_parts, decode, contents, part, directory_refusal}
 use Rattle.headers.specs.Theorems.{Bytes}
-use Rattle.headers.specs.Views.{Cut, Held, Opened, Reads}
+use Rattle.headers.specs.declared.header.Header.{Header as View}
+use Rattle.headers.specs.declared.header.Parts.{Parts}
+use Rattle.headers.specs.declared.header.Tally.{Tally}
+use Rattle.headers.specs.Views.{Cut, Held, Opened, Reads, holding_of, content_refusal_of, judgement_of}
 use Rattle.headers.proofs.Pieces.{length_records}
 use Rattle.headers.proofs.Backward.{one_file, accepted_proper, named_from}
 use Rattle.headers.proofs.Spelling.{known_length}
 use Rattle.headers.proofs.Tests.{four_pass}
 
-module _ (x c v s : List ℕ) (n k r m : ℕ) (px : are_names x ≡ true) (pc : are_names c ≡ true) (pv : are_names v ≡ true) (ps : are_records s ≡ true)
-    (en : n ≡ length (lines x)) (ek : k ≡ length (lines c)) (er : r ≡ length (lines v)) (em : m ≡ length s / 8) where
-  pub held_from : Held x c v s n k r m
-  held_from = record {
-    right = four_pass (are_names x) (are_names c) (are_names v) (are_records s) (refusal WrongContent 1 0) (refusal WrongContent 2 0) (refusal WrongContent 3 0) (refusal WrongContent 4 0) px pc pv ps;
-    counted = record { individuals = en; classes = ek; roles = er; statements = em ∙ sym (length_records s) };
-    each = known_length (cut 8 s) (and_parts (even 8 s) (all is_record (cut 8 s)) ps).1 ∙ (length_records s ∙ sym em);
-  }
+module _ (p : Parts) (t : Tally) (px : are_names p.individuals.now ≡ true) (pc : are_names p.classes.now ≡ true) (pv : are_names p.roles.now ≡ true) (ps : are_records p.statements.now ≡ true)
+    (en : t.individuals ≡ length (lines p.individuals.now)) (ek : t.classes ≡ length (lines p.classes.now)) (er : t.roles ≡ length (lines p.roles.now)) (em : t.statements ≡ length p.statements.now / 8) where
+  pub held_from : Held p t
+  held_from =
+      let s : List ℕ = p.statements.now in
+      record {
+        right = four_pass (are_names p.individuals.now) (are_names p.classes.now) (are_names p.roles.now) (are_records p.statements.now)
+            (refusal WrongContent 1 0) (refusal WrongContent 2 0) (refusal WrongContent 3 0) (refusal WrongContent 4 0) px pc pv ps;
+        counted = record { individuals = en; classes = ek; roles = er; statements = em ∙ sym (length_records s) };
+        each = known_length (cut 8 s) (and_parts (even 8 s) (all is_record (cut 8 s)) ps).1 ∙ (length_records s ∙ sym em);
+      }
 
 -- counts outside their limits, and inside them
 pub outside : (n k r m : ℕ) (xs : List Record) (e : Refusal) → within_limits n k r m ≡ false → e ≡ refusal CountOutOfLimits 0 0 → judgement n k r m xs ≡ Some e
@@ -36,60 +42,56 @@ inside n k r m n' k' r' xs o w i c v e =
     ap (λ (b : Bool). cond b (records_refusal n k r 0 xs) (Some (refusal CountOutOfLimits 0 0))) w
     ∙ (ap (λ (x : ℕ). records_refusal x k r 0 xs) (sym i) ∙ (ap (λ (x : ℕ). records_refusal n' x r 0 xs) (sym c) ∙ (ap (λ (x : ℕ). records_refusal n' k' x 0 xs) (sym v) ∙ e)))
 
-module _ (b x c v s : List ℕ) (k : Cut b x c v s) where
+module _ (b : List ℕ) (p : Parts) (k : Cut b p) where
   -- one function of the four parts
-  over_parts : {X : Type 0} (f : List ℕ → List ℕ → List ℕ → List ℕ → X) → f (part b 0) (part b 1) (part b 2) (part b 3) ≡ f x c v s
-  over_parts f =
-      ap (λ a. f a (part b 1) (part b 2) (part b 3)) (sym k.individuals)
-      ∙ (ap (λ a. f x a (part b 2) (part b 3)) (sym k.classes)
-      ∙ (ap (λ a. f x c a (part b 3)) (sym k.roles) ∙ ap (f x c v) (sym k.statements)))
+  over_parts : {X : Type 0} (f : List ℕ → List ℕ → List ℕ → List ℕ → X) → f (part b 0) (part b 1) (part b 2) (part b 3) ≡ f p.individuals.now p.classes.now p.roles.now p.statements.now
+  over_parts f = rw (k.individuals, k.classes, k.roles, k.statements) refl
 
   held_or : List ℕ → List ℕ → List ℕ → List ℕ → Result Header Refusal
-  held_or x' c' v' s' = refuse (content_refusal x' c' v' s') (Ok (holding x' c' v' s'))
+  held_or x c v s = refuse (content_refusal x c v s) (Ok (holding x c v s))
 
-  pub contents_are : contents b ≡ refuse (content_refusal x c v s) (Ok (holding x c v s))
+  contents_are : contents b ≡ refuse (content_refusal_of p) (Ok (holding_of p))
   unfolding held_or
   contents_are = ap (λ o. refuse o (held_or (part b 0) (part b 1) (part b 2) (part b 3))) k.right ∙ over_parts held_or
 
-  pub content_refused : (e : Refusal) → content_refusal x c v s ≡ Some e → contents b ≡ Err e
-  content_refused e h = contents_are ∙ ap (λ o. refuse o (Ok (holding x c v s))) h
+  pub content_refused : (e : Refusal) → content_refusal_of p ≡ Some e → contents b ≡ Err e
+  content_refused e h = contents_are ∙ ap (λ o. refuse o (Ok (holding_of p))) h
 
-  pub opened_from : (n m r t : ℕ) → Held x c v s n m r t → Opened b x c v s n m r t
-  opened_from n m r t h = record {
-    is = contents_are ∙ ap (λ o. refuse o (Ok (holding x c v s))) h.right;
+  decodes_parts : decode b ≡ of_parts p.individuals.now p.classes.now p.roles.now p.statements.now
+  decodes_parts = ap (λ o. refuse o (of_parts (part b 0) (part b 1) (part b 2) (part b 3))) k.right ∙ over_parts of_parts
+
+  pub held_contents : (t : Tally) → Held p t → contents b ≡ Ok (holding_of p)
+  held_contents t h = contents_are ∙ ap (λ o. refuse o (Ok (holding_of p))) h.right
+
+  pub held_decodes : (t : Tally) → Held p t → decode b ≡ refuse (judgement t.individuals t.classes t.roles t.statements (records_in p.statements.now)) (Ok (holding_of p))
+  held_decodes t h =
+      let d = h.counted in
+      decodes_parts ∙ (ap (λ o. refuse o (judged p.individuals.now p.classes.now p.roles.now p.statements.now)) h.right ∙ rw (d.individuals, d.classes, d.roles, d.statements) refl)
+
+-- a view of a file
+module _ (b : List ℕ) (v : View) where
+  pub opened_from : Cut b v.parts → Held v.parts v.tally → Opened b v
+  opened_from k h = record {
+    is = held_contents b v.parts k v.tally h;
     cut = k;
     held = h;
-    named = named_from x c v s h.right;
+    named = named_from v.parts.individuals.now v.parts.classes.now v.parts.roles.now v.parts.statements.now h.right;
   }
 
-  cut_decodes : decode b ≡ of_parts x c v s
-  cut_decodes = ap (λ o. refuse o (of_parts (part b 0) (part b 1) (part b 2) (part b 3))) k.right ∙ over_parts of_parts
+  module _ (o : Opened b v) where
+    judged_is : decode b ≡ refuse (judgement_of v) (Ok (holding_of v.parts))
+    judged_is = held_decodes b v.parts o.cut v.tally o.held
 
-  module _ (n m r t : ℕ) (h : Held x c v s n m r t) where
-    judged_is : decode b ≡ refuse (judgement n m r t (records_in s)) (Ok (holding x c v s))
-    judged_is =
-        let d = h.counted in
-        cut_decodes ∙ (ap (λ o. refuse o (judged x c v s)) h.right
-        ∙ (ap (λ i. refuse (judgement i (length (lines c)) (length (lines v)) (length (records_in s)) (records_in s)) (Ok (holding x c v s))) (sym d.individuals)
-        ∙ (ap (λ i. refuse (judgement n i (length (lines v)) (length (records_in s)) (records_in s)) (Ok (holding x c v s))) (sym d.classes)
-        ∙ (ap (λ i. refuse (judgement n m i (length (records_in s)) (records_in s)) (Ok (holding x c v s))) (sym d.roles)
-        ∙ ap (λ i. refuse (judgement n m r i (records_in s)) (Ok (holding x c v s))) (sym d.statements)))))
+    pub refused_from : (e : Refusal) → judgement_of v ≡ Some e → decode b ≡ Err e
+    refused_from e j = judged_is ∙ ap (λ o. refuse o (Ok (holding_of v.parts))) j
 
-    pub refused_from : (e : Refusal) → judgement n m r t (records_in s) ≡ Some e → decode b ≡ Err e
-    refused_from e j = judged_is ∙ ap (λ o. refuse o (Ok (holding x c v s))) j
+    pub decodes_from : judgement_of v ≡ None → decode b ≡ Ok (holding_of v.parts)
+    decodes_from j = judged_is ∙ ap (λ o. refuse o (Ok (holding_of v.parts))) j
 
-    pub decodes_from : judgement n m r t (records_in s) ≡ None → decode b ≡ Ok (holding x c v s)
-    decodes_from j = judged_is ∙ ap (λ o. refuse o (Ok (holding x c v s))) j
-
-    pub reads_from : Bytes b → judgement n m r t (records_in s) ≡ None → Reads b x c v s n m r t
+    pub reads_from : Bytes b → judgement_of v ≡ None → Reads b v
     reads_from y j =
         let d = decodes_from j in
-        record {
-          is = d;
-          opened = opened_from n m r t h;
-          proper = accepted_proper b (holding x c v s) d;
-          whole = one_file b (holding x c v s) y d;
-        }
+        record { is = d; opened = o; proper = accepted_proper b (holding_of v.parts) d; whole = one_file b (holding_of v.parts) y d }
 
 -- a refusal of the contents is the header's
 pub directory_refused : (b : List ℕ) (e : Refusal) → directory_refusal b ≡ Some e → contents b ≡ Err e

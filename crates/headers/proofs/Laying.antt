@@ -1,12 +1,12 @@
-use Rattle.std.proofs.Common.{◌≡◌, ℕ, ◌+◌, ◌*◌, ◌<◌, ◌≤◌, ltb, leb, List, [], ◌∷◌, ◌++◌, length, get_or, take, drop, Ok, Err, Result, sym, refl, ap, ◌∙◌, subst, append_assoc, arith, length-append, length-drop, take-append-drop, length-take, MatchResult}
+use Rattle.std.proofs.Common.{◌≡◌, ℕ, ◌+◌, ◌*◌, ◌<◌, ◌≤◌, true, false, ltb, leb, List, [], ◌∷◌, ◌++◌, length, get_or, take, drop, Ok, Err, Result, sym, refl, ap, ◌∙◌, subst, append_assoc, arith, length-append, length-drop, take-append-drop, length-take, MatchResult}
 use Rattle.std.proofs.lemmas.List.{drop-drop, take_at, drop_at, take_more, append-nil}
 use Rattle.rules.specs.declared.statements.Statement.{Statement}
 use Rattle.headers.specs.Bytes.{joined}
 use Rattle.headers.specs.Records.{record_bytes}
-use Rattle.std.proofs.lemmas.Bool.{and_from, and_left, and_right, le-leb, lt-leb, lt-ltb, le-ltb}
+use Rattle.std.proofs.lemmas.Bool.{and_parts, leb-true}
 use Rattle.rules.specs.declared.refusals.Refusal.{Refusal}
 use Rattle.headers.specs.Header.{directory, file_of}
-use Rattle.headers.specs.Output.{laid, too_short, Wrote, Kept}
+use Rattle.headers.specs.Output.{laid, fits, too_short, Wrote, Kept}
 
 pub laid_none : (o : List ℕ) (at : ℕ) → laid o at [] ≡ o
 laid_none o at = let e : at + 0 ≡ at = omega arith in ap (λ k. take at o ++ drop k o) e ∙ take-append-drop at o
@@ -82,38 +82,23 @@ laid_four o o1 o2 o3 o4 at m1 m2 m3 a b c d e1 e2 e3 e4 i1 i2 i3 h =
     let f4 = laid_two o o3 o4 at m3 ((a ++ b) ++ c) d f3 e4 j3 h in
     f4 ∙ ap (laid o at) (append_assoc (a ++ b) c d ∙ append_assoc a b (c ++ d))
 
-module _ (x c v : List ℕ) (ss : List Statement) where
-  pub header_length : length (file_of x c v (joined record_bytes ss)) ≡ 32 + length x + length c + length v + 8 * length ss
-  header_length = omega (arith, length-append (directory (length x) (length c) (length v) (length (joined record_bytes ss))) (x ++ (c ++ (v ++ joined record_bytes ss))), length-append x (c ++ (v ++ joined record_bytes ss)), length-append c (v ++ joined record_bytes ss), length-append v (joined record_bytes ss), joined_length ss)
+-- a header written by its directory, and then its four parts, of lengths l, m and n
+module _ (x c v : List ℕ) (ss : List Statement) (l m n : ℕ) (el : l ≡ length x) (em : m ≡ length c) (en : n ≡ length v) where
+  header_length : length (file_of x c v (joined record_bytes ss)) ≡ 32 + l + m + n + 8 * length ss
+  header_length = omega (arith, length-append (directory (length x) (length c) (length v) (length (joined record_bytes ss))) (x ++ (c ++ (v ++ joined record_bytes ss))), length-append x (c ++ (v ++ joined record_bytes ss)), length-append c (v ++ joined record_bytes ss), length-append v (joined record_bytes ss), joined_length ss, el, em, en)
 
-  pub wrote : (o p q : List ℕ) (n : ℕ) → n ≡ 32 + length x + length c + length v + 8 * length ss → n < 4294967296 → n ≤ length o →
-      p ≡ laid o 0 (directory (length x) (length c) (length v) (8 * length ss)) → q ≡ laid p 32 (x ++ (c ++ (v ++ joined record_bytes ss))) →
-      Wrote o q (file_of x c v (joined record_bytes ss)) n
-  wrote o p q n e s h f g =
-      let l = header_length in
+  pub wrote : (o p q : List ℕ) (size : ℕ) → size ≡ 32 + l + m + n + 8 * length ss → fits o size ≡ true → p ≡ laid o 0 (directory l m n (8 * length ss)) →
+      q ≡ laid p 32 (x ++ (c ++ (v ++ joined record_bytes ss))) → Wrote o q (file_of x c v (joined record_bytes ss)) size
+  wrote o p q size e room f g =
+      let s : size ≡ length (file_of x c v (joined record_bytes ss)) = e ∙ sym header_length in
+      let h = leb-true size (length o) (and_parts (leb size (length o)) (ltb size 4294967296) room).0 in
       let d : List ℕ = directory (length x) (length c) (length v) (length (joined record_bytes ss)) in
-      let f2 : p ≡ laid o 0 (directory (length x) (length c) (length v) (length (joined record_bytes ss))) = f ∙ ap (λ k. laid o 0 (directory (length x) (length c) (length v) k)) (sym (joined_length ss)) in
-      let t = laid_two o p q 0 32 d (x ++ (c ++ (v ++ joined record_bytes ss))) f2 g refl (omega (arith, length-append d (x ++ (c ++ (v ++ joined record_bytes ss))))) in
-      record {
-        room = and_from (leb (length (file_of x c v (joined record_bytes ss))) (length o)) (ltb (length (file_of x c v (joined record_bytes ss))) 4294967296)
-            (le-leb (length (file_of x c v (joined record_bytes ss))) (length o) (omega arith)) (lt-ltb (length (file_of x c v (joined record_bytes ss))) 4294967296 (omega arith));
-        size = e ∙ sym l;
-        bytes = t ∙ laid_front o (file_of x c v (joined record_bytes ss));
-      }
+      let f2 : p ≡ laid o 0 (directory (length x) (length c) (length v) (length (joined record_bytes ss))) = rw (sym el, sym em, sym en, joined_length ss) f in
+      let t = laid_two o p q 0 32 d (x ++ (c ++ (v ++ joined record_bytes ss))) f2 g refl (omega (arith, s, h, length-append d (x ++ (c ++ (v ++ joined record_bytes ss))))) in
+      record { room = ap (fits o) (sym s) ∙ room; size = s; bytes = t ∙ laid_front o (file_of x c v (joined record_bytes ss)) }
 
-  pub kept_long : (o : List ℕ) (e : Refusal) → e ≡ too_short → 4294967296 ≤ 32 + length x + length c + length v + 8 * length ss → Kept o o (file_of x c v (joined record_bytes ss)) e
-  kept_long o e is h = record {
-    room = and_right (leb (length (file_of x c v (joined record_bytes ss))) (length o)) (ltb (length (file_of x c v (joined record_bytes ss))) 4294967296) (le-ltb (length (file_of x c v (joined record_bytes ss))) 4294967296 (omega (arith, header_length)));
-    refused = is;
-    bytes = refl;
-  }
-
-  pub kept_short : (o : List ℕ) (e : Refusal) → e ≡ too_short → length o < 32 + length x + length c + length v + 8 * length ss → Kept o o (file_of x c v (joined record_bytes ss)) e
-  kept_short o e is h = record {
-    room = and_left (leb (length (file_of x c v (joined record_bytes ss))) (length o)) (ltb (length (file_of x c v (joined record_bytes ss))) 4294967296) (lt-leb (length (file_of x c v (joined record_bytes ss))) (length o) (omega (arith, header_length)));
-    refused = is;
-    bytes = refl;
-  }
+  pub kept : (o q : List ℕ) (e : Refusal) → fits o (32 + l + m + n + 8 * length ss) ≡ false → e ≡ too_short → q ≡ o → Kept o q (file_of x c v (joined record_bytes ss)) e
+  kept o q e room is same = record { room = ap (fits o) header_length ∙ room; refused = is; bytes = same }
 
 -- the same of a file that is equal
 pub written_as : (t : Result ℕ Refusal) (o p f g : List ℕ) → f ≡ g → MatchResult t (λ n. Wrote o p f n) (λ e. Kept o p f e) → MatchResult t (λ n. Wrote o p g n) (λ e. Kept o p g e)

@@ -1,9 +1,13 @@
-use Rattle.std.proofs.Common.{◌≡◌, ℕ, zero, suc, ◌+◌, ◌-◌, ◌<◌, Bool, true, false, not, ◌&&◌, ◌||◌, eqb, List, [], ◌∷◌, ◌++◌, length, get_or, take, drop, Decides, sym, refl, ap, ◌∙◌, inl, inr, suc-le-suc, zero-le, arith, length-append, take-append-drop}
+use Rattle.std.proofs.Common.{◌≡◌, ℕ, zero, suc, ◌+◌, ◌-◌, ◌<◌, Bool, true, false, not, ◌&&◌, ◌||◌, eqb, List, [], ◌∷◌, ◌++◌, length, get_or, take, drop, Some, None, Decides, sym, refl, ap, ◌∙◌, inl, inr, suc-le-suc, zero-le, arith, length-append, take-append-drop}
 use Rattle.std.specs.Str.{bytes_eq}
 use Rattle.std.proofs.lemmas.Slice.Eq.{bytes_eq-Decides}
 use Rattle.std.proofs.lemmas.Bool.Decides.{same_from_decides}
 use Rattle.std.proofs.lemmas.List.{drop_more}
-use Rattle.std.proofs.lemmas.Bool.{cond-true, cond-false, ne_eqb, cases_Bool}
+use Rattle.std.proofs.lemmas.List.Quantifiers.{position-Some}
+use Rattle.std.proofs.lemmas.Iterator.Adapters.{position_from-zero}
+use Rattle.std.proofs.lemmas.Option.{none-some}
+use Rattle.std.specs.List.{position, position_from}
+use Rattle.std.proofs.lemmas.Bool.{cond-true, cond-false, eqb-true, cases_Bool}
 use Rattle.reader.specs.Text.{is_name}
 use Rattle.headers.specs.Bytes.{all}
 use Rattle.headers.specs.Names.{lines, ended, is_in, distinct, are_names, on_first}
@@ -13,28 +17,41 @@ abbrev pub Free : List ℕ → Type 0
 Free [] = Unit {0}
 Free (b ∷ bs) = (eqb b 10 ≡ false) × Free bs
 
-pub free_from : (i : ℕ) (xs : List ℕ) → ((k : ℕ) → k < i → get_or xs k 0 ≡ 10 → ⊥) → Free (take i xs)
+free_from : (i : ℕ) (xs : List ℕ) → ((k : ℕ) → k < i → eqb (get_or xs k 0) 10 ≡ false) → Free (take i xs)
 free_from zero xs h = tt
 free_from (suc i) [] h = tt
-free_from (suc i) (x ∷ xs) h = (ne_eqb x 10 (h 0 (suc-le-suc zero-le)), free_from i xs (λ k l. h (suc k) (suc-le-suc l)))
+free_from (suc i) (x ∷ xs) h = (h 0 (suc-le-suc zero-le), free_from i xs (λ k l. h (suc k) (suc-le-suc l)))
 
-pub lines_none : (xs : List ℕ) → ((k : ℕ) → k < length xs → get_or xs k 0 ≡ 10 → ⊥) → lines xs ≡ []
-lines_none [] h = refl
-lines_none (x ∷ xs) h =
-    let e = ne_eqb x 10 (h 0 (suc-le-suc zero-le)) in
-    let r = lines_none xs (λ k l. h (suc k) (suc-le-suc l)) in
-    cond-false (eqb x 10) ([] ∷ lines xs) (on_first x (lines xs)) e ∙ ap (on_first x) r
+is_end : ℕ → Bool
+is_end b = eqb b 10
+
+none_from : (i : ℕ) (xs : List ℕ) → position_from is_end i xs ≡ None → lines xs ≡ []
+unfolding is_end
+none_from i [] e = refl
+none_from i (x ∷ xs) e =
+    elim (cases_Bool (eqb x 10)) [
+      | inl t ↦ absurd (none-some i (sym e ∙ cond-true (eqb x 10) (Some i) (position_from is_end (i + 1) xs) t))
+      | inr f ↦ cond-false (eqb x 10) ([] ∷ lines xs) (on_first x (lines xs)) f ∙ ap (on_first x) (none_from (i + 1) xs (sym (cond-false (eqb x 10) (Some i) (position_from is_end (i + 1) xs) f) ∙ e))
+    ]
 
 pub lines_line : (x rest : List ℕ) → Free x → lines (x ++ (10 ∷ rest)) ≡ x ∷ lines rest
 lines_line [] rest f = refl
 lines_line (b ∷ bs) rest f =
     cond-false (eqb b 10) ([] ∷ lines (bs ++ (10 ∷ rest))) (on_first b (lines (bs ++ (10 ∷ rest)))) f.0 ∙ ap (on_first b) (lines_line bs rest f.1)
 
-pub split_at : (xs : List ℕ) (i : ℕ) → i < length xs → get_or xs i 0 ≡ 10 → xs ≡ take i xs ++ (10 ∷ drop (i + 1) xs)
+split_at : (xs : List ℕ) (i : ℕ) → i < length xs → get_or xs i 0 ≡ 10 → xs ≡ take i xs ++ (10 ∷ drop (i + 1) xs)
 split_at xs i h e = sym (take-append-drop i xs) ∙ ap (λ t. take i xs ++ t) (drop_more xs i 0 h ∙ ap (λ y. y ∷ drop (i + 1) xs) e)
 
-pub lines_split : (xs : List ℕ) (i : ℕ) → i < length xs → get_or xs i 0 ≡ 10 → ((k : ℕ) → k < i → get_or xs k 0 ≡ 10 → ⊥) → lines xs ≡ take i xs ∷ lines (drop (i + 1) xs)
-lines_split xs i h e f = ap lines (split_at xs i h e) ∙ lines_line (take i xs) (drop (i + 1) xs) (free_from i xs f)
+-- the first line ends where the first line end stands
+pub no_line : (xs : List ℕ) → position (λ b. eqb b 10) xs ≡ None → lines xs ≡ []
+unfolding is_end
+no_line xs e = none_from 0 xs (sym (position_from-zero is_end xs) ∙ e)
+
+pub first_line : (xs : List ℕ) (i : ℕ) → position (λ b. eqb b 10) xs ≡ Some i → (xs ≡ take i xs ++ (10 ∷ drop (i + 1) xs)) × (lines xs ≡ take i xs ∷ lines (drop (i + 1) xs))
+first_line xs i e =
+    let p = position-Some (λ b. eqb b 10) xs i 0 e in
+    let s = split_at xs i p.0 (eqb-true (get_or xs i 0) 10 p.1) in
+    (s, ap lines s ∙ lines_line (take i xs) (drop (i + 1) xs) (free_from i xs p.2))
 
 pub ended_after : (l : ℕ) (x rest : List ℕ) → ended l (x ++ (10 ∷ rest)) ≡ ended 10 rest
 ended_after l [] rest = refl

@@ -1,9 +1,11 @@
 use Rattle.std.proofs.Common.{◌≡◌, ℕ, ◌+◌, ◌-◌, ◌*◌, ◌≤◌, Bool, true, false, cond, not, ◌&&◌, eqb, leb, List, length, take, drop, Some, None, Option, sym, refl, ap, ◌∙◌, arith}
-use Rattle.std.proofs.lemmas.Bool.{and_parts, leb-true, eqb-true}
+use Rattle.std.proofs.lemmas.Bool.{and_parts, and_from, leb-true, eqb-true, eq-eqb}
 use Rattle.rules.specs.declared.refusals.Refusal.{Refusal}
 use Rattle.rules.specs.Refusals.{refusal}
 use Rattle.rules.specs.declared.refusals.Reason.TheVariants.{WrongDirectory}
-use Rattle.headers.specs.Views.{Ends, Cut}
+use Rattle.headers.specs.declared.header.Parts.{Parts}
+use Rattle.headers.specs.Views.{Cut}
+use Rattle.headers.proofs.Tests.{four_pass}
 use Rattle.headers.specs.Header.{offset, size, end, part, starts, wrong_directory, directory_refusal}
 
 -- what a right directory says
@@ -46,13 +48,23 @@ part_is b i from to p q =
     let e : to - from ≡ size b i = omega arith in
     ap (λ n. take n (drop from b)) e ∙ ap (λ n. take (size b i) (drop n b)) (sym p)
 
-pub cut_from : (b : List ℕ) (one two three four : ℕ) → Ends b one two three four → Cut b (take (one - 32) (drop 32 b)) (take (two - one) (drop one b)) (take (three - two) (drop two b)) (take (four - three) (drop three b))
-cut_from b one two three four e =
-    let t = right_from b e.right in
-    record {
-      right = e.right;
-      individuals = part_is b 0 32 one t.first e.one_is;
-      classes = part_is b 1 one two (t.second ∙ sym e.one_is) e.two_is;
-      roles = part_is b 2 two three (t.third ∙ sym e.two_is) e.three_is;
-      statements = part_is b 3 three four (t.fourth ∙ sym e.three_is) e.four_is;
-    }
+-- the ends of the four parts of a right directory, found one after the other
+module _ (b : List ℕ) (one two three four : ℕ) (s1 : starts b 0 32 ≡ true) (e1 : one ≡ end b 0) (s2 : starts b 1 one ≡ true) (e2 : two ≡ end b 1)
+    (s3 : starts b 2 two ≡ true) (e3 : three ≡ end b 2) (s4 : starts b 3 three ≡ true) (e4 : four ≡ end b 3) (l : four ≡ length b) where
+  all_right : directory_refusal b ≡ None
+  all_right =
+      four_pass (starts b 0 32) (starts b 1 (end b 0)) (starts b 2 (end b 1)) (starts b 3 (end b 2) && eqb (end b 3) (length b)) (refusal WrongDirectory 1 0) (refusal WrongDirectory 2 0) (refusal WrongDirectory 3 0) (refusal WrongDirectory 4 0)
+      s1 (ap (starts b 1) (sym e1) ∙ s2) (ap (starts b 2) (sym e2) ∙ s3)
+      (and_from (starts b 3 (end b 2)) (eqb (end b 3) (length b)) (ap (starts b 3) (sym e3) ∙ s4) (eq-eqb (end b 3) (length b) (sym e4 ∙ l)))
+
+  pub cut_from : (p : Parts) → p.individuals.now ≡ take (one - 32) (drop 32 b) → p.classes.now ≡ take (two - one) (drop one b) → p.roles.now ≡ take (three - two) (drop two b) →
+      p.statements.now ≡ take (four - three) (drop three b) → Cut b p
+  cut_from p x c v s =
+      let t = right_from b all_right in
+      record {
+        right = all_right;
+        individuals = x ∙ part_is b 0 32 one t.first e1;
+        classes = c ∙ part_is b 1 one two (t.second ∙ sym e1) e2;
+        roles = v ∙ part_is b 2 two three (t.third ∙ sym e2) e3;
+        statements = s ∙ part_is b 3 three four (t.fourth ∙ sym e3) e4;
+      }

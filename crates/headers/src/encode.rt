@@ -6,8 +6,8 @@ ghost use Rattle.headers.specs.Header.{listing, encode};
 ghost use Rattle.headers.specs.Output.{laid, Wrote, Kept};
 ghost use Rattle.headers.specs.Theorems.{ReadBack};
 
-use crate::output::{copy_at, put_directory, put_records, too_short, total};
-use rules::refusals::Refusal;
+use crate::output::{copy_at, put_front, put_records};
+use rules::refusals::{Reason, Refusal};
 use rules::statements::Statement;
 use std::convert::AsSlice;
 
@@ -60,22 +60,10 @@ fn write_lists<N: AsSlice<u8>>(
 ) -> Result<usize, Refusal>
     ensures { MatchResult result (λ n. Wrote out.old out.new (encode (listing (map N.items individuals.now) (map N.items classes.now) (map N.items roles.now) statements.now)) n) (λ e. Kept out.old out.new (encode (listing (map N.items individuals.now) (map N.items classes.now) (map N.items roles.now) statements.now)) e) }
 {
-    let Some(x) = names_size(individuals) else {
-        return Err(too_short());
-    };
-    let Some(c) = names_size(classes) else {
-        return Err(too_short());
-    };
-    let Some(v) = names_size(roles) else {
-        return Err(too_short());
-    };
-    let Some(n) = total(x, c, v, statements.len()) else {
-        return Err(too_short());
-    };
-    if n > out.len() {
-        return Err(too_short());
-    }
-    put_directory(out, x, c, v, 8 * statements.len());
+    let x = names_size(individuals).ok_or(Reason::OutputTooShort)?;
+    let c = names_size(classes).ok_or(Reason::OutputTooShort)?;
+    let v = names_size(roles).ok_or(Reason::OutputTooShort)?;
+    let n = put_front(out, x, c, v, statements.len())?;
     let second = put_names(out, 32, individuals);
     let third = put_names(out, second, classes);
     let fourth = put_names(out, third, roles);

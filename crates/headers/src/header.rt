@@ -1,13 +1,11 @@
 // A header in bytes: opened, which is judging its directory and its contents, and read, which is judging all of it.
 ghost use Rattle.std.specs.Prelude.{◌≡◌, ℕ, ◌+◌, ◌-◌, ◌*◌, ◌<◌, ◌≤◌, true, false, [], length, Some, None, Ok, Err, MatchOption, MatchResult, slice_index_or};
-ghost use Rattle.rules.specs.Refusals.{refusal};
-ghost use Rattle.rules.specs.declared.refusals.Reason.TheVariants.{WrongContent};
 ghost use Rattle.headers.specs.Names.{lines};
-ghost use Rattle.headers.specs.Header.{directory_refusal, content_refusal, judgement, records_in, statements_in, contents, decode};
+ghost use Rattle.headers.specs.Header.{directory_refusal, statements_in, contents, decode};
 ghost use Rattle.headers.specs.Theorems.{OnlyOne};
-ghost use Rattle.headers.specs.Views.{Cut, Held, Opened, Reads, Copied, part_of};
+ghost use Rattle.headers.specs.Views.{Cut, Held, Opened, Reads, Copied, Tallied, part_of, content_refusal_of, judgement_of};
 
-use crate::directory::{FourEnds, ends};
+use crate::directory::part_end;
 use crate::names::{count_names, name_at};
 use crate::statements::{are_records, check_fields, copy_statements};
 use rules::counts::Counts;
@@ -42,14 +40,15 @@ pub struct Header<'a> {
 
 // Cuts a file into its four parts, as its directory says.
 fn cut_parts(bytes: &[u8]) -> Result<Parts<'_>, Refusal>
-    ensures { MatchResult result (λ p. Cut bytes.now p.individuals.now p.classes.now p.roles.now p.statements.now) (λ e. directory_refusal bytes.now ≡ Some e) }
+    ensures { MatchResult result (λ p. Cut bytes.now p) (λ e. directory_refusal bytes.now ≡ Some e) }
 {
-    let FourEnds {
-        one,
-        two,
-        three,
-        four,
-    } = ends(bytes)?;
+    let one = part_end(bytes, 0, 32).ok_or(Reason::WrongDirectory.at(1, 0))?;
+    let two = part_end(bytes, 8, one).ok_or(Reason::WrongDirectory.at(2, 0))?;
+    let three = part_end(bytes, 16, two).ok_or(Reason::WrongDirectory.at(3, 0))?;
+    let four = part_end(bytes, 24, three).ok_or(Reason::WrongDirectory.at(4, 0))?;
+    if four != bytes.len() {
+        return Err(Reason::WrongDirectory.at(4, 0));
+    }
     Ok(Parts {
         individuals: &bytes[32..one],
         classes: &bytes[one..two],
@@ -58,32 +57,15 @@ fn cut_parts(bytes: &[u8]) -> Result<Parts<'_>, Refusal>
     })
 }
 
-/// The refusal of wrong content: `part` is the first part that has it.
-pub fn wrong_content(part: usize) -> Refusal
-    ensures { result ≡ refusal WrongContent part 0 }
-{
-    Refusal {
-        reason: Reason::WrongContent,
-        place: part,
-        item: 0,
-    }
-}
-
 // How many names and statements the parts hold, if their contents are right.
 fn count_parts(parts: &Parts<'_>) -> Result<Tally, Refusal>
-    ensures { MatchResult result (λ t. Held parts.now.individuals.now parts.now.classes.now parts.now.roles.now parts.now.statements.now t.individuals t.classes t.roles t.statements) (λ e. content_refusal parts.now.individuals.now parts.now.classes.now parts.now.roles.now parts.now.statements.now ≡ Some e) }
+    ensures { MatchResult result (λ t. Held parts.now t) (λ e. content_refusal_of parts.now ≡ Some e) }
 {
-    let Some(individuals) = count_names(parts.individuals) else {
-        return Err(wrong_content(1));
-    };
-    let Some(classes) = count_names(parts.classes) else {
-        return Err(wrong_content(2));
-    };
-    let Some(roles) = count_names(parts.roles) else {
-        return Err(wrong_content(3));
-    };
+    let individuals = count_names(parts.individuals).ok_or(Reason::WrongContent.at(1, 0))?;
+    let classes = count_names(parts.classes).ok_or(Reason::WrongContent.at(2, 0))?;
+    let roles = count_names(parts.roles).ok_or(Reason::WrongContent.at(3, 0))?;
     if !are_records(parts.statements) {
-        return Err(wrong_content(4));
+        return Err(Reason::WrongContent.at(4, 0));
     }
     Ok(Tally {
         individuals,
@@ -95,7 +77,7 @@ fn count_parts(parts: &Parts<'_>) -> Result<Tally, Refusal>
 
 /// The header in a file whose directory and contents are right; its counts and fields are not judged.
 pub fn open_header(bytes: &[u8]) -> Result<Header<'_>, Refusal>
-    ensures { MatchResult result (λ h. Opened bytes.now h.parts.individuals.now h.parts.classes.now h.parts.roles.now h.parts.statements.now h.tally.individuals h.tally.classes h.tally.roles h.tally.statements) (λ e. contents bytes.now ≡ Err e) }
+    ensures { MatchResult result (λ h. Opened bytes.now h) (λ e. contents bytes.now ≡ Err e) }
 {
     let parts = cut_parts(bytes)?;
     let tally = count_parts(&parts)?;
@@ -105,7 +87,7 @@ pub fn open_header(bytes: &[u8]) -> Result<Header<'_>, Refusal>
 impl<'a> Header<'a> {
     /// The name of a kind with this number, as a part of the lent bytes; the numbers of a kind count from 0.
     pub fn name(&self, kind: Kind, number: usize) -> Option<&'a [u8]>
-        ensures { MatchOption result (length (lines (part_of kind self.now.parts.individuals.now self.now.parts.classes.now self.now.parts.roles.now)) ≤ number) (λ x. (number < length (lines (part_of kind self.now.parts.individuals.now self.now.parts.classes.now self.now.parts.roles.now))) × (x.now ≡ slice_index_or (lines (part_of kind self.now.parts.individuals.now self.now.parts.classes.now self.now.parts.roles.now)) number [])) }
+        ensures { MatchOption result (length (lines (part_of kind self.now.parts)) ≤ number) (λ x. (number < length (lines (part_of kind self.now.parts))) × (x.now ≡ slice_index_or (lines (part_of kind self.now.parts)) number [])) }
     {
         let part = match kind {
             Kind::Individual => self.parts.individuals,
@@ -124,7 +106,7 @@ impl<'a> Header<'a> {
 
     /// The counts of an opened header, if they are within their limits and all fields fit.
     pub fn judge(&self) -> Result<Counts, Refusal>
-        ensures { MatchResult result (λ c. (judgement self.now.tally.individuals self.now.tally.classes self.now.tally.roles self.now.tally.statements (records_in self.now.parts.statements.now) ≡ None) × (c.individuals ≡ self.now.tally.individuals) × (c.classes ≡ self.now.tally.classes) × (c.roles ≡ self.now.tally.roles) × (c.statements ≡ self.now.tally.statements)) (λ e. judgement self.now.tally.individuals self.now.tally.classes self.now.tally.roles self.now.tally.statements (records_in self.now.parts.statements.now) ≡ Some e) }
+        ensures { MatchResult result (λ c. (judgement_of self.now ≡ None) × Tallied self.now.tally c) (λ e. judgement_of self.now ≡ Some e) }
     {
         let tally = self.tally;
         let counts = Counts::new(
@@ -140,7 +122,7 @@ impl<'a> Header<'a> {
 
 /// The header in a file, or its one refusal.
 pub fn read_header(bytes: &[u8]) -> Result<Header<'_>, Refusal>
-    ensures exact { MatchResult result (λ h. Reads bytes.now h.parts.individuals.now h.parts.classes.now h.parts.roles.now h.parts.statements.now h.tally.individuals h.tally.classes h.tally.roles h.tally.statements) (λ e. decode bytes.now ≡ Err e) }
+    ensures exact { MatchResult result (λ h. Reads bytes.now h) (λ e. decode bytes.now ≡ Err e) }
     ensures only { OnlyOne }
 {
     let header = open_header(bytes)?;

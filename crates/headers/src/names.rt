@@ -1,19 +1,23 @@
 // Names in a part of a header: each is ended by a line end.
-ghost use Rattle.std.specs.Prelude.{◌≡◌, ℕ, ◌+◌, ◌-◌, ◌*◌, ◌<◌, ◌≤◌, true, false, not, ◌&&◌, List, [], ◌∷◌, ◌++◌, length, Some, None, MatchOption, slice_index_or};
+ghost use Rattle.std.specs.Prelude.{◌≡◌, ℕ, ◌+◌, ◌-◌, ◌*◌, ◌<◌, ◌≤◌, true, false, not, ◌&&◌, List, [], ◌∷◌, ◌++◌, length, Some, None, MatchOption, slice_index_or, ◌==◌};
+ghost use Rattle.std.specs.List.{position};
 ghost use Rattle.headers.specs.Names.{lines, ended, is_in, distinct, are_names, line};
 
 use reader::letters::is_name;
+
+// Where the first line ends.
+fn line_end(part: &[u8]) -> Option<usize>
+    ensures { result ≡ position (λ b. b == 10) part.now }
+{
+    part.iter().position(|b| *b == b'\n')
+}
 
 // The first line, without its end, and what stands after it.
 fn first_line(part: &[u8]) -> Option<(&[u8], &[u8])>
     ensures { MatchOption result (lines part.now ≡ []) (λ p. (part.now ≡ p.0.now ++ (10 ∷ p.1.now)) × (lines part.now ≡ p.0.now ∷ lines p.1.now)) }
 {
-    for i in 0..part.len() {
-        if part[i] == b'\n' {
-            return Some((&part[0..i], &part[i + 1..part.len()]));
-        }
-    }
-    None
+    let end = line_end(part)?;
+    Some((&part[..end], &part[end + 1..]))
 }
 
 // Whether a name is a line of the part.

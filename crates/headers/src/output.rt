@@ -1,10 +1,11 @@
 // Writing a header.
-ghost use Rattle.std.specs.Prelude.{◌≡◌, ℕ, ◌+◌, ◌-◌, ◌*◌, ◌<◌, ◌≤◌, true, false, List, [], ◌∷◌, ◌++◌, length, MatchOption, MatchResult};
+ghost use Rattle.std.specs.Prelude.{◌≡◌, ℕ, ◌+◌, ◌-◌, ◌*◌, ◌<◌, ◌≤◌, true, false, List, [], ◌∷◌, ◌++◌, length, MatchResult};
 ghost use Rattle.headers.specs.Bytes.{joined, four};
 ghost use Rattle.headers.specs.Records.{record_bytes};
-ghost use Rattle.headers.specs.Header.{pair, directory, file_of, encode, renamed, Named};
-ghost use Rattle.headers.specs.Output.{laid, too_short, Wrote, Kept};
+ghost use Rattle.headers.specs.Header.{pair, directory, encode, renamed, Named};
+ghost use Rattle.headers.specs.Output.{laid, fits, too_short, Wrote, Kept};
 ghost use Rattle.headers.specs.Theorems.{ReadBack};
+ghost use Rattle.headers.specs.Views.{rewritten};
 
 use crate::header::{Header, Parts};
 use crate::record::letter_byte;
@@ -63,16 +64,23 @@ pub(crate) fn put_directory(out: &mut [u8], x: usize, c: usize, v: usize, s: usi
     put_pair(out, 24, 32 + x + c + v, s);
 }
 
-// How long a header is, if 32 bits can say it.
-pub(crate) fn total(x: usize, c: usize, v: usize, statements: usize) -> Option<usize>
-    ensures { MatchOption result (4294967296 ≤ 32 + x + c + v + 8 * statements) (λ n. (n ≡ 32 + x + c + v + 8 * statements) × (n < 4294967296)) }
+// Writes the directory of a header whose parts have these lengths, and answers how long the header is, if the output and 32
+// bits have room for it.
+pub(crate) fn put_front(
+    out: &mut [u8],
+    x: usize,
+    c: usize,
+    v: usize,
+    statements: usize,
+) -> Result<usize, Refusal>
+    ensures { MatchResult result (λ n. (n ≡ 32 + x + c + v + 8 * statements) × (fits out.old n ≡ true) × (out.new ≡ laid out.old 0 (directory x c v (8 * statements)))) (λ e. (fits out.old (32 + x + c + v + 8 * statements) ≡ false) × (e ≡ too_short) × (out.new ≡ out.old)) }
 {
-    let most = 4294967295;
-    if x > most || c > most || v > most || statements > most {
-        return None;
+    let size = 32 + x as u128 + c as u128 + v as u128 + 8 * (statements as u128);
+    if size > out.len() as u128 || size >= 4294967296 {
+        return Err(Reason::OutputTooShort.into());
     }
-    let n = 32 + x + c + v + 8 * statements;
-    if n > most { None } else { Some(n) }
+    put_directory(out, x, c, v, 8 * statements);
+    Ok(size as usize)
 }
 
 // Everything after the directory.
@@ -89,35 +97,18 @@ fn put_parts(out: &mut [u8], parts: &Parts<'_>, statements: &[Statement])
     put_records(out, fourth, statements);
 }
 
-// The refusal of an output that is too short, or of a file past 32 bits.
-pub(crate) fn too_short() -> Refusal
-    ensures { result ≡ too_short }
-{
-    Refusal {
-        reason: Reason::OutputTooShort,
-        place: 0,
-        item: 0,
-    }
-}
-
 // Writes the parts of names and the given statements as a header, and answers its length.
 fn write_parts(
     parts: &Parts<'_>,
     statements: &[Statement],
     out: &mut [u8],
 ) -> Result<usize, Refusal>
-    ensures { MatchResult result (λ n. Wrote out.old out.new (file_of parts.now.individuals.now parts.now.classes.now parts.now.roles.now (joined record_bytes statements.now)) n) (λ e. Kept out.old out.new (file_of parts.now.individuals.now parts.now.classes.now parts.now.roles.now (joined record_bytes statements.now)) e) }
+    ensures { MatchResult result (λ n. Wrote out.old out.new (rewritten parts.now statements.now) n) (λ e. Kept out.old out.new (rewritten parts.now statements.now) e) }
 {
     let x = parts.individuals.len();
     let c = parts.classes.len();
     let v = parts.roles.len();
-    let Some(n) = total(x, c, v, statements.len()) else {
-        return Err(too_short());
-    };
-    if n > out.len() {
-        return Err(too_short());
-    }
-    put_directory(out, x, c, v, 8 * statements.len());
+    let n = put_front(out, x, c, v, statements.len())?;
     put_parts(out, parts, statements);
     Ok(n)
 }
@@ -126,7 +117,7 @@ impl<'a> Header<'a> {
     /// Writes the header with the names of this one and the given statements, and answers its length. The names are
     /// copied as they stand; where this header was opened, what is written is the encoding.
     pub fn rewrite(&self, statements: &[Statement], out: &mut [u8]) -> Result<usize, Refusal>
-        ensures bytes { MatchResult result (λ n. Wrote out.old out.new (file_of self.now.parts.individuals.now self.now.parts.classes.now self.now.parts.roles.now (joined record_bytes statements.now)) n) (λ e. Kept out.old out.new (file_of self.now.parts.individuals.now self.now.parts.classes.now self.now.parts.roles.now (joined record_bytes statements.now)) e) }
+        ensures bytes { MatchResult result (λ n. Wrote out.old out.new (rewritten self.now.parts statements.now) n) (λ e. Kept out.old out.new (rewritten self.now.parts statements.now) e) }
         ensures encoding { Named self.now.parts.individuals.now self.now.parts.classes.now self.now.parts.roles.now → MatchResult result (λ n. Wrote out.old out.new (encode (renamed self.now.parts.individuals.now self.now.parts.classes.now self.now.parts.roles.now statements.now)) n) (λ e. Kept out.old out.new (encode (renamed self.now.parts.individuals.now self.now.parts.classes.now self.now.parts.roles.now statements.now)) e) }
         ensures back { ReadBack }
     {

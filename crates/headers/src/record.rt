@@ -17,13 +17,6 @@ pub struct Record {
     pub fields: Three<u16>,
 }
 
-// A 16-bit number, high byte first.
-fn wide(high: u8, low: u8) -> u16
-    ensures { result ≡ high * 256 + low }
-{
-    high as u16 * 256 + low as u16
-}
-
 // The first record, its second byte apart, and the bytes after it.
 pub(crate) fn cut_record(bytes: &[u8]) -> Option<(u8, Record, &[u8])>
     ensures { MatchOption result (length bytes.now < 8) (λ p. (8 ≤ length bytes.now) × (p.0 ≡ at (take 8 bytes.now) 1) × (p.1 ≡ record_in (take 8 bytes.now)) × (p.2.now ≡ drop 8 bytes.now)) }
@@ -31,9 +24,9 @@ pub(crate) fn cut_record(bytes: &[u8]) -> Option<(u8, Record, &[u8])>
     let [letter, zero, a1, a0, b1, b0, c1, c0, rest @ ..] = bytes else {
         return None;
     };
-    let first = wide(*a1, *a0);
-    let second = wide(*b1, *b0);
-    let third = wide(*c1, *c0);
+    let first = u16::from_be_bytes([*a1, *a0]);
+    let second = u16::from_be_bytes([*b1, *b0]);
+    let third = u16::from_be_bytes([*c1, *c0]);
     Some((
         *zero,
         Record {

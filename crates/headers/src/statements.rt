@@ -31,11 +31,7 @@ pub(crate) fn check_fields(counts: Counts, part: &[u8]) -> Result<(), Refusal>
     let mut place = 0;
     while let Some((_, record, after)) = cut_record(rest) {
         if let Some(item) = record.wrong(counts) {
-            return Err(Refusal {
-                reason: Reason::WrongField,
-                place,
-                item,
-            });
+            return Err(Reason::WrongField.at(place, item));
         }
         rest = after;
         place += 1;

@@ -13,8 +13,8 @@ use rules::statements::Statement;
 
 // The counts of an opened header, if they and its fields are right and its statements are admissible.
 fn judge(header: &Header<'_>) -> Result<Counts, Refusal>
-    requires { Held header.now.parts.individuals.now header.now.parts.classes.now header.now.parts.roles.now header.now.parts.statements.now header.now.tally.individuals header.now.tally.classes header.now.tally.roles header.now.tally.statements }
-    ensures { MatchResult result (λ c. Passes header.now.parts.statements.now header.now.tally.individuals header.now.tally.classes header.now.tally.roles header.now.tally.statements c) (λ e. Fails header.now.parts.statements.now header.now.tally.individuals header.now.tally.classes header.now.tally.roles header.now.tally.statements e) }
+    requires { Held header.now.parts header.now.tally }
+    ensures { MatchResult result (λ c. Passes header.now c) (λ e. Fails header.now e) }
 {
     let counts = header.judge()?;
     let mut statements = [Statement::Empty { class: 0 }; 384];
@@ -26,7 +26,7 @@ fn judge(header: &Header<'_>) -> Result<Counts, Refusal>
 
 /// The header in a file as a view of its bytes, or its one refusal. A view's name is a part of the bytes.
 pub fn read_header(bytes: &[u8]) -> Result<Header<'_>, Refusal>
-    ensures exact { MatchResult result (λ h. Viewed bytes.now h.parts.individuals.now h.parts.classes.now h.parts.roles.now h.parts.statements.now h.tally.individuals h.tally.classes h.tally.roles h.tally.statements) (λ e. HeaderMeans bytes.now (Err e)) }
+    ensures exact { MatchResult result (λ h. Viewed bytes.now h) (λ e. HeaderMeans bytes.now (Err e)) }
     ensures one { OneHeaderOutcome bytes.now }
     ensures back { AcceptedBack }
     ensures only { OnlyOneAccepted }

@@ -23,13 +23,6 @@ pub struct CutEntry<'a> {
     pub rest: &'a [u8],
 }
 
-// A 16-bit number, high byte first.
-fn wide(high: u8, low: u8) -> u16
-    ensures { result ≡ high * 256 + low }
-{
-    high as u16 * 256 + low as u16
-}
-
 /// Takes the first entry off some bytes; `None` if they are fewer than fourteen.
 pub fn cut_entry(bytes: &[u8]) -> Option<CutEntry<'_>>
     ensures { MatchOption result (length bytes.now < 14) (λ c. EntryCut bytes.now c.entry c.rest.now) }
@@ -57,12 +50,12 @@ pub fn cut_entry(bytes: &[u8]) -> Option<CutEntry<'_>>
     let entry = Entry {
         letter: *letter,
         rule: *rule,
-        first: wide(*a1, *a0),
-        role: wide(*b1, *b0),
-        second: wide(*c1, *c0),
-        place: wide(*p1, *p0),
-        u: wide(*u1, *u0),
-        w: wide(*w1, *w0),
+        first: u16::from_be_bytes([*a1, *a0]),
+        role: u16::from_be_bytes([*b1, *b0]),
+        second: u16::from_be_bytes([*c1, *c0]),
+        place: u16::from_be_bytes([*p1, *p0]),
+        u: u16::from_be_bytes([*u1, *u0]),
+        w: u16::from_be_bytes([*w1, *w0]),
     };
     Some(CutEntry { entry, rest })
 }

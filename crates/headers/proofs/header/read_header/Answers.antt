@@ -11,21 +11,11 @@ returns-in_err-header c =
 
 pub returns-in_err-_counts : goal.returns-in_err-_counts
 returns-in_err-_counts c =
-    let h = c.in_ok-header.header in
-    let o = c.in_ok-header.ensures in
     let p = err_from_is_err_and c.from_residual-in_err-_counts.result c.from_residual-in_err-_counts.ensures.1 in
-    record {
-      exact = rw (p.1, p.2) (refused_from c.args.bytes.now h.parts.individuals.now h.parts.classes.now h.parts.roles.now h.parts.statements.now o.cut
-          h.tally.individuals h.tally.classes h.tally.roles h.tally.statements o.held _ c.in_err-_counts.ensures);
-      only = only_one;
-    }
+    record { exact = rw (p.1, p.2) (refused_from c.args.bytes.now c.in_ok-header.header c.in_ok-header.ensures _ c.in_err-_counts.ensures); only = only_one }
 
 pub returns : goal.returns
-returns c =
-    let h = c.in_ok-header.header in
-    let o = c.in_ok-header.ensures in
-    record {
-      exact = reads_from c.args.bytes.now h.parts.individuals.now h.parts.classes.now h.parts.roles.now h.parts.statements.now o.cut
-          h.tally.individuals h.tally.classes h.tally.roles h.tally.statements o.held (λ k. omega (arith, c.type_inv.bytes k)) c.in_ok-_counts.ensures.0;
-      only = only_one;
-    }
+returns c = record {
+  exact = reads_from c.args.bytes.now c.in_ok-header.header c.in_ok-header.ensures (λ k. omega (arith, c.type_inv.bytes k)) c.in_ok-_counts.ensures.0;
+  only = only_one;
+}

@@ -1,17 +1,14 @@
-use Rattle.std.proofs.Common.{ℕ, ◌<◌, List, arith}
-use native.Mathlib.Nat.{sub-zero}
-use Rattle.std.proofs.lemmas.List.{take_rest}
-use Rattle.headers.proofs.Lines.{split_at, lines_split, lines_none}
+use Rattle.std.proofs.Common.{ℕ, ◌+◌, List, length, sym, arith}
+use Rattle.std.proofs.lemmas.Slice.{between_to_end}
+use Rattle.headers.proofs.Lines.{no_line, first_line}
 use Rattle.headers.proofs.names.first_line.Goals as goal
 
-pub returns-then-part-i-eq10 : goal.returns-then-part-i-eq10
-returns-then-part-i-eq10 c =
-    let b : List ℕ = c.args.part.now in
-    let i : ℕ = c.loop-i.i in
-    let s = split_at b i c.loop-i-test.true c.if-part-i-eq10.true in
-    let l = lines_split b i c.loop-i-test.true c.if-part-i-eq10.true c.loop-i.invariant in
-    (rw (sub-zero, take_rest) s, rw (sub-zero, take_rest) l)
+pub returns-in_err-end : goal.returns-in_err-end
+returns-in_err-end c = rw c.from_residual.ensures (no_line c.args.part.now (sym c.in_err-end.ensures))
 
 pub returns : goal.returns
 returns c =
-    lines_none c.args.part.now (λ k h e. let l : k < c.loop-i.i = omega arith in c.loop-i.invariant k l e)
+    let part : List ℕ = c.args.part.now in
+    let f = first_line part c.in_ok-end.end (sym c.in_ok-end.ensures) in
+    let e = between_to_end part (c.in_ok-end.end + 1) (length part) (omega arith) in
+    rw e f

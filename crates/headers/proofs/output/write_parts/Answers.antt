@@ -1,19 +1,15 @@
-use Rattle.std.proofs.Common.{arith}
-use Rattle.headers.proofs.Laying.{wrote, kept_long, kept_short}
+use Rattle.std.proofs.Common.{refl}
+use Rattle.std.proofs.lemmas.Result.{err_from_is_err_and}
+use Rattle.headers.proofs.Laying.{wrote, kept}
 use Rattle.headers.proofs.output.write_parts.Goals as goal
+
+pub returns-in_err-n : goal.returns-in_err-n
+returns-in_err-n c =
+    let a = c.args.parts.now in let e = c.in_err-n.ensures in
+    let p = err_from_is_err_and c.from_residual.result c.from_residual.ensures.1 in
+    rw (p.1, p.2) (kept a.individuals.now a.classes.now a.roles.now c.args.statements.now _ _ _ refl refl refl c.args.out.now _ _ e.0 e.1 e.2)
 
 pub returns : goal.returns
 returns c =
-    let p = c.args.parts.now in
-    wrote p.individuals.now p.classes.now p.roles.now c.args.statements.now c.args.out.now c.put_directory.new.out c.put_parts.new.out c.in-Some.n
-    c.in-Some.ensures.0 c.in-Some.ensures.1 c.if-n-out.false c.put_directory.ensures c.put_parts.ensures
-
-pub returns-in_default : goal.returns-in_default
-returns-in_default c =
-    let p = c.args.parts.now in
-    kept_long p.individuals.now p.classes.now p.roles.now c.args.statements.now c.args.out.now c.too_short.result c.too_short.ensures c.in_default.ensures
-
-pub returns-then-n-out : goal.returns-then-n-out
-returns-then-n-out c =
-    let p = c.args.parts.now in
-    kept_short p.individuals.now p.classes.now p.roles.now c.args.statements.now c.args.out.now c.too_short-then-n-out.result c.too_short-then-n-out.ensures (omega (arith, c.in-Some.ensures.0, c.if-n-out.true))
+    let a = c.args.parts.now in let e = c.in_ok-n.ensures in
+    wrote a.individuals.now a.classes.now a.roles.now c.args.statements.now _ _ _ refl refl refl c.args.out.now c.put_front.new.out c.put_parts.new.out c.in_ok-n.n e.0 e.1 e.2 c.put_parts.ensures

@@ -1,4 +1,4 @@
-use Rattle.std.proofs.Common.{◌≡◌, ℕ, ◌-◌, List, length, ap, ◌∙◌, arith, length-drop}
+use Rattle.std.proofs.Common.{Some, sym, ◌≡◌, ℕ, ◌-◌, List, length, ap, ◌∙◌, arith, length-drop}
 use Rattle.headers.specs.Records.{records_refusal}
 use Rattle.headers.proofs.Pieces.{fields_step, fields_bad, records_none}
 use Rattle.headers.proofs.statements.check_fields.Goals as goal
@@ -6,7 +6,7 @@ use Rattle.headers.proofs.statements.check_fields.Goals as goal
 pub returns-in-Some-wrong : goal.returns-in-Some-wrong
 returns-in-Some-wrong c =
     let f = c.in-Some.ensures in
-    c.loop-record.invariant.0 ∙ fields_bad _ _ _ c.loop-record.place c.loop-record.rest.now c.in-Some.after.now c.in-Some.record f.0 f.2 f.3 c.in-Some-wrong.item c.in-Some-wrong.ensures
+    c.loop-record.invariant.0 ∙ (fields_bad _ _ _ c.loop-record.place c.loop-record.rest.now c.in-Some.after.now c.in-Some.record f.0 f.2 f.3 c.in-Some-wrong.item c.in-Some-wrong.ensures ∙ ap Some (sym c.at.ensures))
 
 pub loop-record-preserved : goal.loop-record-preserved
 loop-record-preserved c =

@@ -10,15 +10,15 @@ returns-in_err-counts c =
 
 pub returns-in_err-check_admissible : goal.returns-in_err-check_admissible
 returns-in_err-check_admissible c =
-    let h = c.args.header.now in let t = h.tally in
+    let h = c.args.header.now in
     let j = c.in_ok-counts.ensures in
     let p = err_from_is_err_and c.from_residual-in_err-check_admissible.result c.from_residual-in_err-check_admissible.ensures.1 in
-    rw (p.1, p.2) (breaks h.parts.individuals.now h.parts.classes.now h.parts.roles.now h.parts.statements.now t.individuals t.classes t.roles t.statements c.requires c.in_ok-counts.counts
-    j.0 j.1 j.2 j.3 j.4 _ c.copy_statements-count.new.memory refl c.copy_statements-count.result c.copy_statements-count.ensures _ _ refl c.new-base.ensures.statements _ c.in_err-check_admissible.ensures)
+    rw (p.1, p.2) (breaks h c.requires c.in_ok-counts.counts
+    j.0 j.1 _ c.copy_statements-count.new.memory refl c.copy_statements-count.result c.copy_statements-count.ensures _ _ refl c.new-base.ensures.statements _ c.in_err-check_admissible.ensures)
 
 pub returns : goal.returns
 returns c =
-    let h = c.args.header.now in let t = h.tally in
+    let h = c.args.header.now in
     let j = c.in_ok-counts.ensures in
-    passes h.parts.individuals.now h.parts.classes.now h.parts.roles.now h.parts.statements.now t.individuals t.classes t.roles t.statements c.requires c.in_ok-counts.counts
-    j.0 j.1 j.2 j.3 j.4 _ c.copy_statements-count.new.memory refl c.copy_statements-count.result c.copy_statements-count.ensures _ _ refl c.new-base.ensures.statements c.in_ok-check_admissible.ensures
+    passes h c.requires c.in_ok-counts.counts
+    j.0 j.1 _ c.copy_statements-count.new.memory refl c.copy_statements-count.result c.copy_statements-count.ensures _ _ refl c.new-base.ensures.statements c.in_ok-check_admissible.ensures

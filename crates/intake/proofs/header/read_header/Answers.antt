@@ -12,11 +12,10 @@ returns-in_err-header c =
 
 pub returns-in_err-_counts : goal.returns-in_err-_counts
 returns-in_err-_counts c =
-    let h = c.in_ok-header.header in let t = h.tally in
+    let h = c.in_ok-header.header in
     let p = err_from_is_err_and c.from_residual-in_err-_counts.result c.from_residual-in_err-_counts.ensures.1 in
     record {
-      exact = rw (p.1, p.2) (refused c.args.bytes.now h.parts.individuals.now h.parts.classes.now h.parts.roles.now h.parts.statements.now t.individuals t.classes t.roles t.statements
-          c.in_ok-header.ensures _ c.in_err-_counts.ensures);
+      exact = rw (p.1, p.2) (refused c.args.bytes.now h c.in_ok-header.ensures _ c.in_err-_counts.ensures);
       one = one_header c.args.bytes.now;
       back = accepted_back;
       only = only_accepted;
@@ -24,10 +23,9 @@ returns-in_err-_counts c =
 
 pub returns : goal.returns
 returns c =
-    let h = c.in_ok-header.header in let t = h.tally in
+    let h = c.in_ok-header.header in
     record {
-      exact = viewed c.args.bytes.now h.parts.individuals.now h.parts.classes.now h.parts.roles.now h.parts.statements.now t.individuals t.classes t.roles t.statements
-          c.in_ok-header.ensures c.in_ok-_counts._counts c.in_ok-_counts.ensures (λ k. omega (arith, c.type_inv.bytes k));
+      exact = viewed c.args.bytes.now h c.in_ok-header.ensures c.in_ok-_counts._counts c.in_ok-_counts.ensures (λ k. omega (arith, c.type_inv.bytes k));
       one = one_header c.args.bytes.now;
       back = accepted_back;
       only = only_accepted;

@@ -12,12 +12,11 @@ returns-in_err-header c =
 
 pub returns-in_err-counts : goal.returns-in_err-counts
 returns-in_err-counts c =
-    let h = c.in_ok-header.header in let t = h.tally in
+    let h = c.in_ok-header.header in
     let p = err_from_is_err_and c.from_residual-in_err-counts.result c.from_residual-in_err-counts.ensures.1 in
     record {
       taken = rw (p.1, p.2) (
-        refused c.args.bytes.now h.parts.individuals.now h.parts.classes.now h.parts.roles.now h.parts.statements.now t.individuals t.classes t.roles t.statements
-            c.in_ok-header.ensures _ c.in_err-counts.ensures,
+        refused c.args.bytes.now h c.in_ok-header.ensures _ c.in_err-counts.ensures,
         refl,
       );
       one = one_header c.args.bytes.now;
@@ -25,9 +24,8 @@ returns-in_err-counts c =
 
 pub returns : goal.returns
 returns c =
-    let h = c.in_ok-header.header in let t = h.tally in
+    let h = c.in_ok-header.header in
     record {
-      taken = taken c.args.bytes.now h.parts.individuals.now h.parts.classes.now h.parts.roles.now h.parts.statements.now t.individuals t.classes t.roles t.statements
-          c.in_ok-header.ensures c.in_ok-counts.counts c.in_ok-counts.ensures c.args.memory.now c.copy_statements.new.memory (omega arith) c.copy_statements.result c.copy_statements.ensures;
+      taken = taken c.args.bytes.now h c.in_ok-header.ensures c.in_ok-counts.counts c.in_ok-counts.ensures c.args.memory.now c.copy_statements.new.memory (omega arith) c.copy_statements.result c.copy_statements.ensures;
       one = one_header c.args.bytes.now;
     }

@@ -1,6 +1,5 @@
-use Rattle.headers.specs.Bytes.{joined}
-use Rattle.headers.specs.Records.{record_bytes}
-use Rattle.headers.specs.Header.{file_of, encode, renamed}
+use Rattle.headers.specs.Header.{encode, renamed}
+use Rattle.headers.specs.Views.{rewritten}
 use Rattle.headers.proofs.Backward.{renamed_is}
 use Rattle.headers.proofs.Forward.{read_back}
 use Rattle.headers.proofs.Laying.{written_as}
@@ -12,7 +11,7 @@ returns c =
     let ss = c.args.statements.now in
     record {
       bytes = c.write_parts.ensures;
-      encoding = λ named. written_as c.write_parts.result c.args.out.now c.write_parts.new.out (file_of p.individuals.now p.classes.now p.roles.now (joined record_bytes ss)) (encode (renamed p.individuals.now p.classes.now p.roles.now ss))
+      encoding = λ named. written_as c.write_parts.result c.args.out.now c.write_parts.new.out (rewritten p ss) (encode (renamed p.individuals.now p.classes.now p.roles.now ss))
           (renamed_is p.individuals.now p.classes.now p.roles.now ss named) c.write_parts.ensures;
       back = read_back;
     }
