@@ -20,91 +20,32 @@ pub struct GroundedFact {
     pub ground: Ground,
 }
 
-// The first term with a number, and the second.
-fn first_term(counts: Counts, number: u16) -> Option<First>
-    ensures { MatchOption result (first_terms counts.individuals ≤ number) (λ x. FirstInside counts.individuals x × (first_number counts.individuals x ≡ number)) }
-{
-    if number < counts.individuals {
-        return Some(First::Individual(number));
-    }
-    let place = number - counts.individuals;
-    if place < 384 {
-        Some(First::Witness(place))
-    } else {
-        None
-    }
-}
-
-fn second_term(counts: Counts, number: u16) -> Option<Second>
-    ensures { MatchOption result (counts.individuals + counts.classes ≤ number) (λ y. SecondInside counts.individuals counts.classes y × (second_number counts.individuals y ≡ number)) }
-{
-    if number < counts.individuals {
-        return Some(Second::Individual(number));
-    }
-    let class = number - counts.individuals;
-    if class < counts.classes {
-        Some(Second::Class(class))
-    } else {
-        None
-    }
-}
-
-// The fact of an entry with the letter I, S or T.
-fn instance_in(counts: Counts, entry: Entry) -> Option<Fact>
-    requires { entry.letter ≡ 73 }
-    ensures { MatchOption result (TellsNone counts.individuals counts.classes counts.roles entry) (λ f. Tells counts.individuals counts.classes counts.roles entry f (ground_in entry)) }
-{
-    if entry.role != 0 {
-        return None;
-    }
-    let Some(x) = first_term(counts, entry.first) else {
-        return None;
-    };
-    let Some(y) = second_term(counts, entry.second) else {
-        return None;
-    };
-    Some(Fact::Instance(x, y))
-}
-
-fn self_pair_in(counts: Counts, entry: Entry) -> Option<Fact>
-    requires { entry.letter ≡ 83 }
-    ensures { MatchOption result (TellsNone counts.individuals counts.classes counts.roles entry) (λ f. Tells counts.individuals counts.classes counts.roles entry f (ground_in entry)) }
-{
-    if entry.second != 0 {
-        return None;
-    }
-    if entry.role >= counts.roles {
-        return None;
-    }
-    let Some(x) = first_term(counts, entry.first) else {
-        return None;
-    };
-    Some(Fact::SelfPair(x, entry.role))
-}
-
-fn pair_in(counts: Counts, entry: Entry) -> Option<Fact>
-    requires { entry.letter ≡ 84 }
-    ensures { MatchOption result (TellsNone counts.individuals counts.classes counts.roles entry) (λ f. Tells counts.individuals counts.classes counts.roles entry f (ground_in entry)) }
-{
-    if entry.role >= counts.roles {
-        return None;
-    }
-    let Some(x) = first_term(counts, entry.first) else {
-        return None;
-    };
-    let Some(y) = first_term(counts, entry.second) else {
-        return None;
-    };
-    Some(Fact::Pair(x, entry.role, y))
-}
-
+// The fact of an entry, by its letter.
 fn fact_in(counts: Counts, entry: Entry) -> Option<Fact>
     ensures { MatchOption result (TellsNone counts.individuals counts.classes counts.roles entry) (λ f. Tells counts.individuals counts.classes counts.roles entry f (ground_in entry)) }
 {
-    match entry.letter {
-        b'I' => instance_in(counts, entry),
-        b'S' => self_pair_in(counts, entry),
-        b'T' => pair_in(counts, entry),
+    let Entry {
+        letter,
+        first,
+        role,
+        second,
+        ..
+    } = entry;
+    match letter {
+        b'I' if role == 0 => {
+            let x = First::with_number(counts, first)?;
+            let y = Second::with_number(counts, second)?;
+            Some(Fact::Instance(x, y))
+        }
+        b'S' if role < counts.roles && second == 0 => {
+            let x = First::with_number(counts, first)?;
+            Some(Fact::SelfPair(x, role))
+        }
+        b'T' if role < counts.roles => {
+            let x = First::with_number(counts, first)?;
+            let y = First::with_number(counts, second)?;
+            Some(Fact::Pair(x, role, y))
+        }
         _ => None,
     }
 }
@@ -114,11 +55,9 @@ pub fn read_entry(counts: Counts, entry: Entry) -> Option<GroundedFact>
     ensures told { MatchOption result (TellsNone counts.individuals counts.classes counts.roles entry) (λ g. Tells counts.individuals counts.classes counts.roles entry g.fact g.ground) }
     ensures once { ToldOnce }
 {
-    let Some(fact) = fact_in(counts, entry) else {
-        return None;
-    };
+    let fact = fact_in(counts, entry)?;
     let ground = Ground {
-        rule: entry.rule as u16,
+        rule: u16::from(entry.rule),
         place: entry.place,
         u: entry.u,
         w: entry.w,
@@ -130,15 +69,12 @@ pub fn read_entry(counts: Counts, entry: Entry) -> Option<GroundedFact>
 fn entry_with(letter: u8, first: u64, role: u16, second: u64, ground: Ground) -> Option<Entry>
     ensures { MatchOption result (¬ EntryFits (made letter first role second ground)) (λ e. e ≡ made letter first role second ground) }
 {
-    if ground.rule > 255 || first > 65535 || second > 65535 {
-        return None;
-    }
     Some(Entry {
         letter,
-        rule: ground.rule as u8,
-        first: first as u16,
+        rule: u8::try_from(ground.rule).ok()?,
+        first: u16::try_from(first).ok()?,
         role,
-        second: second as u16,
+        second: u16::try_from(second).ok()?,
         place: ground.place,
         u: ground.u,
         w: ground.w,

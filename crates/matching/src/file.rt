@@ -26,11 +26,7 @@ fn compare<S: MarkStore>(
 {
     let parts = read_recovery(file)?;
     if store.limit() < fact_limit(base.counts) {
-        return Err(Refusal {
-            reason: Reason::StoreTooSmall,
-            place: 0,
-            item: 0,
-        });
+        return Err(Reason::StoreTooSmall.into());
     }
     store.clear();
     if parts.header == header {

@@ -56,13 +56,7 @@ pub fn judge_entries<J: Judge>(judge: &mut J, part: &[u8]) -> Result<Verdict, Re
         match judge.judge(next.entry) {
             Judged::Good => {}
             Judged::Bad => return Ok(Verdict::No(place)),
-            Judged::Full => {
-                return Err(Refusal {
-                    reason: Reason::StoreTooSmall,
-                    place: 0,
-                    item: 0,
-                });
-            }
+            Judged::Full => return Err(Reason::StoreTooSmall.into()),
         }
         rest = next.rest;
         place += 1;

@@ -15,7 +15,7 @@ pub returns-then-limit-fact_limit : goal.returns-then-limit-fact_limit
 returns-then-limit-fact_limit g c =
     let right = c.in_ok-parts.ensures in
     record {
-      compared = by_limit _ _ _ _ _ _ _ _ _ _ _ refl right.right c.fact_limit.result c.fact_limit.ensures (omega (arith, c.limit.ensures)) refl;
+      compared = by_limit _ _ _ _ _ _ _ _ _ _ c.into.result c.into.ensures right.right c.fact_limit.result c.fact_limit.ensures (omega (arith, c.limit.ensures)) refl;
       limit_kept = refl;
       capacity_kept = refl;
       lent_kept = refl;

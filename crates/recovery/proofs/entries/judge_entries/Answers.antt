@@ -12,7 +12,7 @@ returns-in-Bad g c =
 pub returns-in-Full : goal.returns-in-Full
 returns-in-Full g c =
     let said = c.in-Full.ensures in
-    c.loop-next.invariant.goes_on _ _ (at_full (comes _ _ _ c.in-Some.ensures) said.0 said.1 said.2)
+    rw c.into.ensures (c.loop-next.invariant.goes_on _ _ (at_full (comes _ _ _ c.in-Some.ensures) said.0 said.1 said.2))
 
 pub loop-next-preserved : goal.loop-next-preserved
 loop-next-preserved g c =

@@ -1,4 +1,4 @@
-use Rattle.std.proofs.Common.{ℕ, ◌+◌, ◌≤◌, List, length, Result}
+use Rattle.std.proofs.Common.{◌+◌, ◌≤◌, length, Result}
 use Rattle.rules.specs.declared.refusals.Refusal.{Refusal}
 use Rattle.headers.specs.Bytes.{cut}
 use Rattle.recovery.specs.Entries.{Gone}
