@@ -15,34 +15,17 @@ ghost use Rattle.markdemo.specs.Refusals.{Means};
 ghost use Rattle.markdemo.specs.declared.refused.Refused.TheVariants.{LimitTooLow};
 
 use edges::{Edge, Graph};
-use marks::mark::{Marked, State, mark};
-use marks::store::{MarkStore, Put};
+use marks::mark::{Marked, mark};
+use marks::store::MarkStore;
 use refused::Refused;
 use slottable::SlotTable;
-use std::io;
+use std::{fmt, io};
 use wordtable::WordTable;
-
-fn put_name(put: Put) -> &'static str {
-    match put {
-        Put::Outside => "outside",
-        Put::Held => "held",
-        Put::Full => "full",
-        Put::Added => "added",
-    }
-}
-
-fn state_name(state: State) -> &'static str {
-    match state {
-        State::Done => "done",
-        State::Full => "full",
-        State::More => "more",
-    }
-}
 
 // What a store answers to some numbers, one after the other, and then to `clear`.
 fn put_all<S: MarkStore>(rt: &HostRuntime, store: &mut S) -> io::Result<()> {
     for number in [0u64, 8, 8, 15, 63, 64, 99, 100, 18446744073709551615] {
-        let answer = put_name(store.put(number));
+        let answer = store.put(number);
         let has = store.has(number);
         let count = store.count();
         println!(rt; "  put {number}: {answer}, has {has}, count {count}")?;
@@ -59,22 +42,13 @@ fn put_trials(rt: &HostRuntime) -> io::Result<()> {
     let mut table = WordTable::over(&mut words);
     println!(rt; "two words, limit 0")?;
     put_all(rt, &mut table)?;
-    println!(rt;
-        "two words, limit 129: {}",
-        if table.set_up(129).is_ok() {
-            "made"
-        } else {
-            "too few"
-        }
-    )?;
-    println!(rt;
-        "two words, limit 100: {}",
-        if table.set_up(100).is_ok() {
-            "made"
-        } else {
-            "too few"
-        }
-    )?;
+    for limit in [129u64, 100] {
+        let made = match table.set_up(limit) {
+            Ok(()) => "made",
+            Err(_) => "too few",
+        };
+        println!(rt; "two words, limit {limit}: {made}")?;
+    }
     put_all(rt, &mut table)?;
     let mut slots = [Some(3); 4];
     let mut table = SlotTable::over(&mut slots);
@@ -88,13 +62,10 @@ fn in_words(graph: &Graph, words: &mut [u64], limit: u64, most: u64) -> Result<M
     ensures { MatchResult result (λ m. Marking (Grounded (By graph.now.edges.now graph.now.start graph.now.bound)) empty (capped (bit words.new) limit) limit limit most m.added m.state) (λ e. Means e graph.now.bound limit words.old words.new) }
 {
     let mut table = WordTable::over(words);
-    match table.set_up(limit) {
-        Err(_) => Err(Refused::TooFewWords),
-        Ok(()) => match mark(graph, &mut table, most) {
-            Err(_) => Err(Refused::LimitTooLow),
-            Ok(marked) => Ok(marked),
-        },
-    }
+    let Ok(()) = table.set_up(limit) else {
+        return Err(Refused::TooFewWords);
+    };
+    Ok(mark(graph, &mut table, most)?)
 }
 
 // Marks what the graph reaches in slots that are freed first.
@@ -108,104 +79,73 @@ fn in_slots(
 {
     let mut table = SlotTable::over(slots);
     table.set_up(limit);
-    match mark(graph, &mut table, most) {
-        Err(_) => Err(Refused::LimitTooLow),
-        Ok(marked) => Ok(marked),
+    Ok(mark(graph, &mut table, most)?)
+}
+
+fn show<T: fmt::Display + Drop>(
+    rt: &HostRuntime,
+    title: T,
+    outcome: Result<Marked, Refused>,
+) -> io::Result<()> {
+    match outcome {
+        Ok(Marked { added, state }) => println!(rt; "{title}: {added} {state}"),
+        Err(refused) => println!(rt; "{title}: {refused}"),
     }
 }
 
-fn show(rt: &HostRuntime, title: &str, outcome: Result<Marked, Refused>) -> io::Result<()> {
-    match outcome {
-        Ok(marked) => {
-            let added = marked.added;
-            let state = state_name(marked.state);
-            println!(rt; "{title}: {added} {state}")
-        }
-        Err(Refused::TooFewWords) => println!(rt; "{title}: too few words"),
-        Err(Refused::LimitTooLow) => println!(rt; "{title}: limit too low"),
+// Marks in some memory, at each limit and for each number of facts at most.
+fn mark_each<F: FnMut(u64, u64) -> Result<Marked, Refused>>(
+    rt: &HostRuntime,
+    memory: &str,
+    trials: &[(u64, u64)],
+    mut mark_in: F,
+) -> io::Result<()>
+    requires { F.IsAlwaysCallable mark_in }
+{
+    for (limit, most) in trials {
+        let outcome = mark_in(*limit, *most);
+        show(
+            rt,
+            format_args!("{memory}, limit {limit}, most {most}"),
+            outcome,
+        )?;
     }
+    Ok(())
 }
 
 fn mark_trials(rt: &HostRuntime, graph: &Graph) -> io::Result<()> {
     let mut words = [7u64; 2];
-    show(
+    mark_each(
         rt,
-        "two words, limit 100, most 50",
-        in_words(graph, &mut words, 100, 50),
+        "two words",
+        &[(100, 50), (100, 4), (100, 3), (100, 0), (129, 50), (99, 50)],
+        |limit, most| in_words(graph, &mut words, limit, most),
     )?;
-    show(
-        rt,
-        "two words, limit 100, most 4",
-        in_words(graph, &mut words, 100, 4),
-    )?;
-    show(
-        rt,
-        "two words, limit 100, most 3",
-        in_words(graph, &mut words, 100, 3),
-    )?;
-    show(
-        rt,
-        "two words, limit 100, most 0",
-        in_words(graph, &mut words, 100, 0),
-    )?;
-    show(
-        rt,
-        "two words, limit 129, most 50",
-        in_words(graph, &mut words, 129, 50),
-    )?;
-    show(
-        rt,
-        "two words, limit 99, most 50",
-        in_words(graph, &mut words, 99, 50),
-    )?;
-    show(
-        rt,
-        "no words, limit 100, most 50",
-        in_words(graph, &mut [], 100, 50),
-    )?;
+    mark_each(rt, "no words", &[(100, 50)], |limit, most| {
+        in_words(graph, &mut [], limit, most)
+    })?;
     let mut slots = [Some(9); 4];
-    show(
+    mark_each(
         rt,
-        "four slots, limit 1000, most 50",
-        in_slots(graph, &mut slots, 1000, 50),
-    )?;
-    show(
-        rt,
-        "four slots, limit 1000, most 2",
-        in_slots(graph, &mut slots, 1000, 2),
-    )?;
-    show(
-        rt,
-        "four slots, limit 99, most 50",
-        in_slots(graph, &mut slots, 99, 50),
+        "four slots",
+        &[(1000, 50), (1000, 2), (99, 50)],
+        |limit, most| in_slots(graph, &mut slots, limit, most),
     )?;
     let mut slots = [None::<u64>; 3];
-    show(
-        rt,
-        "three slots, limit 100, most 50",
-        in_slots(graph, &mut slots, 100, 50),
-    )?;
-    show(
-        rt,
-        "three slots, limit 100, most 3",
-        in_slots(graph, &mut slots, 100, 3),
-    )?;
-    show(
-        rt,
-        "no slots, limit 100, most 50",
-        in_slots(graph, &mut [], 100, 50),
-    )
+    mark_each(rt, "three slots", &[(100, 50), (100, 3)], |limit, most| {
+        in_slots(graph, &mut slots, limit, most)
+    })?;
+    mark_each(rt, "no slots", &[(100, 50)], |limit, most| {
+        in_slots(graph, &mut [], limit, most)
+    })
 }
 
 // Marks one at a time in the same store: each call goes on where the last one ended.
 fn one_by_one<S: MarkStore>(rt: &HostRuntime, graph: &Graph, store: &mut S) -> io::Result<()> {
     for turn in 1u8..6 {
-        let outcome = match mark(graph, store, 1) {
-            Ok(marked) => Ok(marked),
-            Err(_) => Err(Refused::LimitTooLow),
-        };
-        let count = store.count();
+        let outcome = mark(graph, store, 1).map_err(Refused::from);
         show(rt, "  one more", outcome)?;
+        let count = store.count();
         println!(rt; "  turn {turn}: count {count}")?;
     }
     Ok(())
