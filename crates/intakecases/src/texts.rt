@@ -1,5 +1,5 @@
 // Rule texts turned into headers.
-use crate::judge_header;
+use crate::{header_answer, print_answer};
 use intake::text::text_to_header;
 use rules::refusals::Refusal;
 use ruletext::text_rules::Rules;
@@ -10,20 +10,15 @@ const BLANK: u8 = 0xaa;
 
 // The text that a line gives: its line ends are written as `;`.
 pub(crate) fn text_of(rt: &HostRuntime, line: &[u8]) -> io::Result<Vec<u8>> {
-    let mut text = Vec::new(rt.alloc());
-    for b in line {
-        text.push(if *b == b';' { b'\n' } else { *b })?;
-    }
-    Ok(text)
+    Ok(
+        line.iter()
+            .map(|b| if *b == b';' { b'\n' } else { *b })
+            .collect(rt.alloc())?,
+    )
 }
 
 fn is_blank(bytes: &[u8]) -> bool {
-    for b in bytes {
-        if *b != BLANK {
-            return false;
-        }
-    }
-    true
+    bytes.iter().all(|b| *b == BLANK)
 }
 
 fn print_refusal(
@@ -59,7 +54,7 @@ pub(crate) fn judge_text(rt: &HostRuntime, number: usize, text: &[u8]) -> io::Re
         Ok(size) => {
             let (header, past) = output.split_at(size);
             print_header(rt, number, header, past)?;
-            judge_header(rt, number, header)?;
+            print_answer(rt, number, header_answer(header))?;
             judge_short(rt, number, text, size)
         }
         Err(refusal) => print_refusal(rt, number, refusal, &output),
