@@ -1,3 +1,4 @@
 pub mod Searching
+pub mod Finds
 pub mod Judging
 pub mod Deciding

@@ -1,2 +1,3 @@
 pub mod Roles
 pub mod RoleNumbers
+pub mod Over

@@ -1,18 +1,17 @@
 // Whether statements are admissible: all role facts are marked, and then each statement's condition is tested.
-ghost use Rattle.std.specs.Prelude.{◌≡◌, ℕ, ◌+◌, ◌*◌, ◌<◌, false, not, ◌&&◌, Decides, MatchOption, MatchResult};
+ghost use Rattle.std.specs.Prelude.{◌≡◌, ℕ, ◌<◌, false, Decides, MatchOption, MatchResult};
 ghost use Rattle.rules.specs.Fits.{WellFormed};
 ghost use Rattle.rules.specs.Refusals.{refusal};
 ghost use Rattle.rules.specs.declared.refusals.Reason.TheVariants.{NotAdmissible};
-ghost use Rattle.rules.specs.declared.statements.Statement.TheVariants.{RoleBoth};
-ghost use Rattle.roles.specs.Roles.{Keeps, RangesWithin, Admissible, FirstBreaking};
-ghost use Rattle.roles.specs.RoleNumbers.{numbers, Judged};
+ghost use Rattle.roles.specs.Roles.{RoleTree, IsSimple, IsRange, IsCovered, Keeps, RangesWithin, Admissible, FirstBreaking};
+ghost use Rattle.roles.specs.RoleNumbers.{numbers, Inside, Judged};
 
-use crate::role_rules::{RoleRules, range_number};
+use crate::facts::RoleFact;
+use crate::role_rules::RoleRules;
 use marks::mark::mark;
 use marks::rules::RuleSet;
 use marks::store::MarkStore;
 use rules::base::RuleBase;
-use rules::counts::Counts;
 use rules::refusals::{Reason, Refusal};
 use rules::statements::Statement;
 use wordtable::WordTable;
@@ -50,90 +49,88 @@ fn first_broken_by<S: MarkStore>(rules: &RoleRules<'_>, store: &mut S) -> Option
     ensures { MatchOption result (Admissible rules.now.base.statements.now) (λ p. FirstBreaking rules.now.base.statements.now p) }
 {
     let _ = mark(rules, store, u64::MAX);
-    first_broken(&rules.base, store)
+    let judgement = Judgement {
+        base: rules.base,
+        marks: store,
+    };
+    judgement.first_broken()
 }
 
-// The same, by marks that judge the roles.
-fn first_broken<S: MarkStore>(base: &RuleBase<'_>, marks: &S) -> Option<usize>
-    requires { Judged base.now.counts.classes base.now.counts.roles base.now.statements.now (S.MarkStore.held marks.now) }
-    ensures { MatchOption result (Admissible base.now.statements.now) (λ p. FirstBreaking base.now.statements.now p) }
-{
-    for place in 0..base.statements.len() {
-        if !keeps(base, marks, base.statements[place]) {
-            return Some(place);
+// A base with marks that judge its roles.
+#[derive(Drop)]
+struct Judgement<'a, S: MarkStore> {
+    base: RuleBase<'a>,
+    marks: &'a S,
+    ghost judged: { ∥ Judged base.counts.classes base.counts.roles base.statements.now (S.MarkStore.held marks.now) ∥₁ },
+}
+
+impl<'a, S: MarkStore> Judgement<'a, S> {
+    // The place of the first statement that breaks its condition.
+    fn first_broken(&self) -> Option<usize>
+        ensures { MatchOption result (Admissible self.now.base.statements.now) (λ p. FirstBreaking self.now.base.statements.now p) }
+    {
+        self.base
+            .statements
+            .iter()
+            .position(|statement| !self.keeps(*statement))
+    }
+
+    // Whether a statement keeps its condition.
+    fn keeps(&self, statement: Statement) -> bool
+        requires { WellFormed self.now.base.counts.individuals self.now.base.counts.classes self.now.base.counts.roles statement }
+        ensures { Decides result (Keeps self.now.base.statements.now statement) }
+    {
+        match statement {
+            Statement::SelfWithin { role, .. } | Statement::SelfPaired { role, .. } =>
+                self.is_simple(role),
+            Statement::Chain { second, role, .. } => self.ranges_within(role, second, second),
+            Statement::RoleBoth { left, right, role } => {
+                self.is_simple(left)
+                    && self.is_simple(right)
+                    && self.ranges_within(role, left, right)
+            }
+            _ => true,
         }
     }
-    None
-}
 
-// Whether a statement keeps its condition.
-fn keeps<S: MarkStore>(base: &RuleBase<'_>, marks: &S, statement: Statement) -> bool
-    requires judged { Judged base.now.counts.classes base.now.counts.roles base.now.statements.now (S.MarkStore.held marks.now) }
-    requires formed { WellFormed base.now.counts.individuals base.now.counts.classes base.now.counts.roles statement }
-    ensures { Decides result (Keeps base.now.statements.now statement) }
-{
-    match statement {
-        Statement::SelfWithin { role, .. } => !marks.has(role as u64),
-        Statement::SelfPaired { role, .. } => !marks.has(role as u64),
-        Statement::Chain { second, role, .. } => ranges_within(base, marks, role, second, second),
-        Statement::RoleBoth { left, right, role } => keeps_both(base, marks, left, right, role),
-        _ => true,
+    // Whether each range of the role is a range of `left` or of `right`.
+    fn ranges_within(&self, role: u16, left: u16, right: u16) -> bool
+        requires { (role < self.now.base.counts.roles) × (left < self.now.base.counts.roles) × (right < self.now.base.counts.roles) }
+        ensures { Decides result (RangesWithin self.now.base.statements.now role left right) }
+    {
+        (0..self.base.counts.classes).all(|class| self.is_covered(class, role, left, right))
     }
-}
 
-// Whether an o-statement keeps its condition.
-fn keeps_both<S: MarkStore>(
-    base: &RuleBase<'_>,
-    marks: &S,
-    left: u16,
-    right: u16,
-    role: u16,
-) -> bool
-    requires judged { Judged base.now.counts.classes base.now.counts.roles base.now.statements.now (S.MarkStore.held marks.now) }
-    requires low { (left < base.now.counts.roles) × (right < base.now.counts.roles) × (role < base.now.counts.roles) }
-    ensures { Decides result (Keeps base.now.statements.now (RoleBoth left right role)) }
-{
-    if marks.has(left as u64) {
-        return false;
+    // Whether the class is a range of `left` or of `right`, if it is one of the role.
+    fn is_covered(&self, class: u16, role: u16, left: u16, right: u16) -> bool
+        requires classes { class < self.now.base.counts.classes }
+        requires roles { (role < self.now.base.counts.roles) × (left < self.now.base.counts.roles) × (right < self.now.base.counts.roles) }
+        ensures { Decides result (IsCovered self.now.base.statements.now role left right class) }
+    {
+        !self.has_range(role, class) || self.has_range(left, class) || self.has_range(right, class)
     }
-    if marks.has(right as u64) {
-        return false;
-    }
-    ranges_within(base, marks, role, left, right)
-}
 
-// Whether each range of the role is a range of `left` or of `right`.
-fn ranges_within<S: MarkStore>(
-    base: &RuleBase<'_>,
-    marks: &S,
-    role: u16,
-    left: u16,
-    right: u16,
-) -> bool
-    requires judged { Judged base.now.counts.classes base.now.counts.roles base.now.statements.now (S.MarkStore.held marks.now) }
-    requires low { (role < base.now.counts.roles) × (left < base.now.counts.roles) × (right < base.now.counts.roles) }
-    ensures { Decides result (RangesWithin base.now.statements.now role left right) }
-{
-    for class in 0..base.counts.classes {
-        if is_lost(base.counts, marks, class, role, left, right) {
-            return false;
-        }
+    // Whether a role is simple.
+    fn is_simple(&self, role: u16) -> bool
+        requires { role < self.now.base.counts.roles }
+        ensures { Decides result (IsSimple self.now.base.statements.now role) }
+    {
+        !self.holds(RoleFact::NonSimple(role))
     }
-    true
-}
 
-// Whether the class is a range of the role, and neither of `left` nor of `right`.
-fn is_lost<S: MarkStore>(
-    counts: Counts,
-    marks: &S,
-    class: u16,
-    role: u16,
-    left: u16,
-    right: u16,
-) -> bool
-    ensures { result ≡ ((S.MarkStore.held marks.now (counts.roles + role * counts.classes + class) && not (S.MarkStore.held marks.now (counts.roles + left * counts.classes + class))) && not (S.MarkStore.held marks.now (counts.roles + right * counts.classes + class))) }
-{
-    marks.has(range_number(counts, role, class))
-        && !marks.has(range_number(counts, left, class))
-        && !marks.has(range_number(counts, right, class))
+    // Whether a class is a range of a role.
+    fn has_range(&self, role: u16, class: u16) -> bool
+        requires { (role < self.now.base.counts.roles) × (class < self.now.base.counts.classes) }
+        ensures { Decides result (IsRange self.now.base.statements.now role class) }
+    {
+        self.holds(RoleFact::Range(role, class))
+    }
+
+    // Whether a role fact has a proof tree.
+    fn holds(&self, fact: RoleFact) -> bool
+        requires { Inside self.now.base.counts.classes self.now.base.counts.roles fact }
+        ensures { Decides result (RoleTree self.now.base.statements.now fact) }
+    {
+        self.marks.has(fact.number(self.base.counts))
+    }
 }

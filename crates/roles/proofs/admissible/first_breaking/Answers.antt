@@ -5,9 +5,9 @@ use Rattle.wordtable.proofs.Masks.{cleared_none}
 use Rattle.roles.proofs.Judging.{ready}
 use Rattle.roles.proofs.admissible.first_breaking.Goals as goal
 
-pub first_broken_by-requires : goal.first_broken_by-requires
-first_broken_by-requires c =
+pub first_broken_by-requires-clause-empty : goal.first_broken_by-requires-clause-empty
+first_broken_by-requires-clause-empty c =
     let counts = c.args.base.now.counts in
     let long : length c.over-table.result.words.now ≡ 129 = ap length c.over-table.ensures.memory in
     let h = ready c.over-table.result.words.now c.set_up.new.self.words.now _ _ _ _ _ (λ e. e ≡ refusal StoreTooSmall 0 0) c.set_up.result long counts.few_classes counts.few_roles c.bound.ensures c.set_up.ensures.made in
-    record { limit = h.0; capacity = h.0; empty = cleared_none _ _ _ h.1 }
+    cleared_none _ _ _ h.1
