@@ -4,7 +4,7 @@ use native.Mathlib.Decide.{ℕ_discrete}
 use Rattle.rules.specs.Statements.{letter_of}
 use Rattle.rules.specs.declared.statements.Statement.{Statement}
 use Rattle.rules.specs.declared.statements.Statement.TheVariants.{Empty}
-use Rattle.calculus.specs.Places.{At}
+use Rattle.rules.specs.Places.{At, at_first, at_next}
 use Rattle.calculus.specs.Steps.{by, rule_1, rule_4}
 use Rattle.calculus.specs.declared.terms.First.TheVariants as first
 use Rattle.calculus.specs.declared.terms.Fact.{Fact}
@@ -14,7 +14,7 @@ use Rattle.meaning.specs.Answers.{AnswerRight, VerdictRight}
 use Rattle.meaning.specs.declared.answers.Answer.TheVariants as answer
 use Rattle.meaning.specs.declared.answers.Verdict.TheVariants as verdict
 use Rattle.meaning.proofs.Tests.{decide}
-use Rattle.meaning.proofs.Spelling.{field, is_empty, at_first, at_later, at_view}
+use Rattle.meaning.proofs.Spelling.{field, is_empty, at_view}
 use Rattle.meaning.proofs.Preserved.{soundness, clash_refuted}
 use Rattle.meaning.proofs.Counter.{countermodels}
 
@@ -41,7 +41,7 @@ found? f [] = inr (λ p A a m. omega (arith, a.low))
 found? f (s ∷ ss) = elim (here? f s) [
   | inl h ↦ inl (0, h.0, subst (λ x. At (s ∷ ss) 0 x) h.1 (at_first s ss), h.2)
   | inr h ↦ elim (found? f ss) [
-    | inl g ↦ inl (suc g.0, g.1, at_later s g.2, g.3)
+    | inl g ↦ inl (suc g.0, g.1, at_next s g.2, g.3)
     | inr g ↦ inr (λ p A a. at_view (¬ T (f A)) p a (λ e t. h A t) (λ q e b. g q A b))
   ]
 ]

@@ -10,7 +10,7 @@ use Rattle.rules.specs.declared.statements.Statement.TheVariants.{Member, Relate
 use Rattle.calculus.specs.Trees.{In, here, there, All, Closed}
 use Rattle.calculus.specs.Tests.{Decides}
 use Rattle.calculus.specs.Places.{At}
-use Rattle.roles.specs.Roles.{IsSimple}
+use Rattle.roles.specs.Roles.{IsNonSimple, IsSimple, Told}
 use Rattle.meaning.proofs.RoleSteps.{chain_nonsimple, subrole_nonsimple, role_tree}
 use Rattle.calculus.specs.Steps.{Step, Follows, by}
 use Rattle.calculus.specs.Steps.{rule_1, rule_2, rule_3, rule_5a, rule_5e, rule_5f, rule_5g, rule_6, rule_7, rule_8, rule_9j, rule_9b, rule_10j, rule_11, rule_12, rule_13, rule_14, rule_15, rule_16, rule_17, rule_18, rule_19, rule_20, rule_21, rule_22, rule_23, rule_24, rule_25, rule_26, rule_27, rule_28, rule_29}
@@ -23,9 +23,10 @@ use Rattle.calculus.specs.declared.terms.Fact.{Fact}
 use Rattle.calculus.specs.declared.terms.Fact.TheVariants.{Instance, SelfPair, Pair}
 use Rattle.meaning.specs.Interpretations.{Interpretation, Satisfies, AtMost}
 use Rattle.meaning.specs.Theorems.{count_j, Countermodels, Proper, Clash}
-use Rattle.meaning.proofs.Tests.{is_true, is_false, itself, both, either, never, same, below, Least, None, least, none_below, none_decides}
+use Rattle.meaning.proofs.Tests.{is_true, is_false, given, itself, both, either, never, same, below, Least, None, least, none_below, none_decides}
 use Rattle.meaning.proofs.Spelling.{field, is_requires}
-use Rattle.meaning.proofs.Simplicity.{nonsimple, nonsimple_decides}
+use Rattle.roles.proofs.Deciding.{roles_told}
+use Rattle.roles.specs.declared.facts.RoleFact.TheVariants.{NonSimple}
 
 -- ── a list of the things ──
 upto : ℕ → List ℕ
@@ -79,7 +80,15 @@ in_right : {d : ℕ} (l : List ℕ) {m : List ℕ} → In d m → In d (l ++ m)
 in_right [] i = i
 in_right (x ∷ l) i = there (in_right l i)
 
-module _ (n : ℕ) (ss : List Statement) (marked : Fact → Bool) where
+module _ (n : ℕ) (ss : List Statement) (told : Told ss) (marked : Fact → Bool) where
+  -- Whether a role is non-simple.
+  nonsimple : ℕ → Bool
+  nonsimple R = told.test (NonSimple R)
+
+  nonsimple_decides : (R : ℕ) → Decides (nonsimple R) (IsNonSimple ss R)
+  unfolding nonsimple
+  nonsimple_decides R = given (nonsimple R) (told.tells (NonSimple R))
+
   abbrev Marked : Fact → Type 0
   Marked f = T (marked f)
 
@@ -108,7 +117,7 @@ module _ (n : ℕ) (ss : List Statement) (marked : Fact → Bool) where
   class C d = thing d && marked (Instance (term d) (second.Class C))
 
   role : ℕ → ℕ → ℕ → Bool
-  role R d e = (thing d && thing e) && ((marked (Pair (term d) R (term e)) && (nonsimple ss R || not (eqb d e))) || (eqb d e && marked (SelfPair (term d) R)))
+  role R d e = (thing d && thing e) && ((marked (Pair (term d) R (term e)) && (nonsimple R || not (eqb d e))) || (eqb d e && marked (SelfPair (term d) R)))
 
   -- The individual that stands for x.
   least_equal : ℕ → ℕ
@@ -116,14 +125,14 @@ module _ (n : ℕ) (ss : List Statement) (marked : Fact → Bool) where
 
   -- Why a pair is in a role.
   data Held (R : ℕ) : ℕ → ℕ → Type 0 where
-    linked : {d e : ℕ} → Marked (Pair (term d) R (term e)) → T (nonsimple ss R) ⊎ (d ≢ e) → Held R d e
+    linked : {d e : ℕ} → Marked (Pair (term d) R (term e)) → T (nonsimple R) ⊎ (d ≢ e) → Held R d e
     looped : {d : ℕ} → Marked (SelfPair (term d) R) → Held R d d
 
   class_decides : (C d : ℕ) → Decides (class C d) (T (thing d) × Marked (Instance (term d) (second.Class C)))
   unfolding class
   class_decides C d = both (itself _) (itself _)
 
-  role_decides : (R d e : ℕ) → Decides (role R d e) ((T (thing d) × T (thing e)) × ((Marked (Pair (term d) R (term e)) × (T (nonsimple ss R) ⊎ (d ≢ e))) ⊎ ((d ≡ e) × Marked (SelfPair (term d) R))))
+  role_decides : (R d e : ℕ) → Decides (role R d e) ((T (thing d) × T (thing e)) × ((Marked (Pair (term d) R (term e)) × (T (nonsimple R) ⊎ (d ≢ e))) ⊎ ((d ≡ e) × Marked (SelfPair (term d) R))))
   unfolding role
   role_decides R d e = both (both (itself _) (itself _)) (either (both (itself _) (either (itself _) (never (same d e)))) (both (same d e) (itself _)))
 
@@ -133,14 +142,14 @@ module _ (n : ℕ) (ss : List Statement) (marked : Fact → Bool) where
   role_things : (R d e : ℕ) → T (role R d e) → T (thing d) × T (thing e)
   role_things R d e h = ((role_decides R d e).out h).0
 
-  role_linked : (R d e : ℕ) → T (thing d) → T (thing e) → Marked (Pair (term d) R (term e)) → T (nonsimple ss R) ⊎ (d ≢ e) → T (role R d e)
+  role_linked : (R d e : ℕ) → T (thing d) → T (thing e) → Marked (Pair (term d) R (term e)) → T (nonsimple R) ⊎ (d ≢ e) → T (role R d e)
   role_linked R d e f g h i = (role_decides R d e).back ((f, g), inl (h, i))
 
   role_looped : (R d : ℕ) → T (thing d) → Marked (SelfPair (term d) R) → T (role R d d)
   role_looped R d f h = (role_decides R d d).back ((f, f), inr (refl, h))
 
   simple_self : {R d e : ℕ} → IsSimple ss R → Held R d e → d ≡ e → Marked (SelfPair (term d) R)
-  simple_self {R} m (linked h (inl g)) e = absurd (m ((nonsimple_decides ss R).out g))
+  simple_self {R} m (linked h (inl g)) e = absurd (m ((nonsimple_decides R).out g))
   simple_self m (linked h (inr g)) e = absurd (g e)
   simple_self m (looped h) e = h
 
@@ -285,7 +294,7 @@ module _ (n : ℕ) (ss : List Statement) (marked : Fact → Bool) where
     reach a (looped h) m = close (rule_8 a) (h, (m, tt))
 
     subrole : {p R Q s t : ℕ} → At ss p (Subrole R Q) → T (thing s) → T (thing t) → Held R s t → T (role Q s t)
-    subrole {R} {Q} {s} {t} a f g (linked h (inl m)) = role_linked Q s t f g (close (rule_13 a) (h, tt)) (inl ((nonsimple_decides ss Q).back (role_tree (subrole_nonsimple a) ((nonsimple_decides ss R).out m, tt))))
+    subrole {R} {Q} {s} {t} a f g (linked h (inl m)) = role_linked Q s t f g (close (rule_13 a) (h, tt)) (inl ((nonsimple_decides Q).back (role_tree (subrole_nonsimple a) ((nonsimple_decides R).out m, tt))))
     subrole {Q} {s} {t} a f g (linked h (inr m)) = role_linked Q s t f g (close (rule_13 a) (h, tt)) (inr m)
     subrole {Q} {s} a f g (looped h) = role_looped Q s f (close (rule_14 a) (h, tt))
 
@@ -355,7 +364,7 @@ module _ (n : ℕ) (ss : List Statement) (marked : Fact → Bool) where
     satisfied p (SelfWithin R C) a = λ s h. (class_decides C s).back ((role_things R s s h).0, close (rule_11 a) (simple_self (proper.admissible _ _ a) (role_out R s s h) refl, tt))
     satisfied p (SelfPaired A R) a = λ s h. let g = (class_decides A s).out h in role_looped R s g.0 (close (rule_12 a) (g.1, tt))
     satisfied p (Subrole R Q) a = λ s t h. let g = role_things R s t h in subrole a g.0 g.1 (role_out R s t h)
-    satisfied p (Chain R S Q) a = λ s t u h g. role_linked Q s u (role_things R s t h).0 (role_things S t u g).1 (chained a (role_out R s t h) (role_out S t u g)) (inl ((nonsimple_decides ss Q).back (role_tree (chain_nonsimple a) tt)))
+    satisfied p (Chain R S Q) a = λ s t u h g. role_linked Q s u (role_things R s t h).0 (role_things S t u g).1 (chained a (role_out R s t h) (role_out S t u g)) (inl ((nonsimple_decides Q).back (role_tree (chain_nonsimple a) tt)))
     satisfied p (RoleBoth R S Q) a = λ s t h g.
         let u = role_out R s t h in
         let v = role_out S s t g in
@@ -388,11 +397,13 @@ module _ (n : ℕ) (ss : List Statement) (marked : Fact → Bool) where
     }
 
 pub countermodels : Countermodels
-countermodels n k r ss proper marked closed clashless = record {
-  in_model = record {
-    model = model n ss marked k r proper closed clashless;
-    satisfied = satisfied n ss marked k r proper closed clashless;
-    small = small n ss marked k r proper closed clashless;
-  };
-  exact = least_in n ss marked k r proper closed clashless;
-}
+countermodels n k r ss proper marked closed clashless =
+    let told = roles_told n k r ss proper.well_formed in
+    record {
+      in_model = record {
+        model = model n ss told marked k r proper closed clashless;
+        satisfied = satisfied n ss told marked k r proper closed clashless;
+        small = small n ss told marked k r proper closed clashless;
+      };
+      exact = least_in n ss told marked k r proper closed clashless;
+    }

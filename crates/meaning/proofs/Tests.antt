@@ -1,8 +1,9 @@
 -- Tests and what they tell; the least number that passes a test.
-use Rattle.std.proofs.Common.{◌≡◌, ℕ, zero, suc, ◌<◌, Bool, true, false, not, ◌&&◌, ◌||◌, T, eqb, ltb, ◌⊎◌, refl, subst, inl, inr, ⊎_elim, arith, eqb→eq, ltb→lt, lt→ltb, T_not}
+use Rattle.std.proofs.Common.{◌≡◌, ℕ, zero, suc, ◌<◌, Bool, true, false, not, ◌&&◌, ◌||◌, T, eqb, ltb, ◌⊎◌, refl, subst, inl, inr, arith}
 use native.Mathlib.Decide.{dec_lt}
+use Rattle.std.proofs.lemmas.Bool.Decides.{Decides-and, Decides-or, Decides-not, Decides-eqb, Decides-ltb}
+use Rattle.std.proofs.lemmas.Float.{T_from_true}
 use Rattle.calculus.specs.Tests.{Decides}
-use lib.Dec.{eqb_refl, not_T}
 
 pub is_true : (b : Bool) → T b → b ≡ true
 is_true true h = refl
@@ -12,50 +13,30 @@ pub is_false : (b : Bool) → ¬ T b → b ≡ false
 is_false true h = absurd (h tt)
 is_false false h = refl
 
-and_left : (a b : Bool) → T (a && b) → T a
-and_left true b h = tt
-and_left false b h = h
+-- The library tells the same of a test by an equation, and has the laws.
+pub given : (b : Bool) {P : Type 0} → (b ≡ true → P) × (P → b ≡ true) → Decides b P
+given b d = record { out = λ t. d.0 (is_true b t); back = λ p. T_from_true b (d.1 p) }
 
-and_right : (a b : Bool) → T (a && b) → T b
-and_right true b h = h
-and_right false b h = elim h [ ]
-
-and_in : (a b : Bool) → T a → T b → T (a && b)
-and_in true b g h = h
-and_in false b g h = g
-
-or_out : (a b : Bool) → T (a || b) → T a ⊎ T b
-or_out true b h = inl tt
-or_out false b h = inr h
-
-or_left : (a b : Bool) → T a → T (a || b)
-or_left true b h = tt
-or_left false b h = elim h [ ]
-
-or_right : (a b : Bool) → T b → T (a || b)
-or_right true b h = tt
-or_right false b h = h
+shown : (b : Bool) {P : Type 0} → Decides b P → (b ≡ true → P) × (P → b ≡ true)
+shown b d = (λ e. d.out (T_from_true b e), λ p. is_true b (d.back p))
 
 pub itself : (b : Bool) → Decides b (T b)
 itself b = record { out = λ h. h; back = λ h. h }
 
 pub both : {a b : Bool} {P Q : Type 0} → Decides a P → Decides b Q → Decides (a && b) (P × Q)
-both {a} {b} u v = record { out = λ h. (u.out (and_left a b h), v.out (and_right a b h)); back = λ h. and_in a b (u.back h.0) (v.back h.1) }
+both {a} {b} u v = given (a && b) (Decides-and a b (shown a u) (shown b v))
 
 pub either : {a b : Bool} {P Q : Type 0} → Decides a P → Decides b Q → Decides (a || b) (P ⊎ Q)
-either {a} {b} u v = record {
-  out = λ h. ⊎_elim (λ g. inl (u.out g)) (λ g. inr (v.out g)) (or_out a b h);
-  back = ⊎_elim (λ g. or_left a b (u.back g)) (λ g. or_right a b (v.back g));
-}
+either {a} {b} u v = given (a || b) (Decides-or a b (shown a u) (shown b v))
 
 pub never : {a : Bool} {P : Type 0} → Decides a P → Decides (not a) (¬ P)
-never {a} u = record { out = λ h p. T_not a h (u.back p); back = λ h. not_T a (λ g. h (u.out g)) }
+never {a} u = given (not a) (Decides-not a (shown a u))
 
 pub same : (m n : ℕ) → Decides (eqb m n) (m ≡ n)
-same m n = record { out = eqb→eq m n; back = λ e. subst (λ x. T (eqb m x)) e (eqb_refl m) }
+same m n = given (eqb m n) (Decides-eqb m n)
 
 pub below : (m n : ℕ) → Decides (ltb m n) (m < n)
-below m n = record { out = ltb→lt m n; back = lt→ltb m n }
+below m n = given (ltb m n) (Decides-ltb m n)
 
 pub decide : (b : Bool) → T b ⊎ (¬ T b)
 decide true = inl tt

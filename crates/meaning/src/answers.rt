@@ -21,6 +21,7 @@ pub enum Verdict {
     Clash,
 }
 
+// No `From<bool>` for these two: it would not say of what the truth value tells, a mark or a clash.
 impl Answer {
     /// The answer by whether the fact is marked. A marked fact has a proof tree, and proof trees are sound.
     pub fn by_mark(marked: bool) -> Answer
@@ -55,5 +56,5 @@ pub fn most_things(individuals: u16, requirements: u16) -> u32
     ensures value { result ≡ individuals + 2 * requirements }
     ensures small { Countermodels }
 {
-    individuals as u32 + 2 * requirements as u32
+    u32::from(individuals) + 2 * u32::from(requirements)
 }
