@@ -52,6 +52,7 @@ fn show(rt: &HostRuntime, title: &str, statements: &[Statement]) -> io::Result<(
     }
 }
 
+// Call by call, and no table: a table of pairs of a title and a slice, laid out, is longer and nested deeper.
 fn simple_trials(rt: &HostRuntime) -> io::Result<()> {
     show(rt, "no statements", &[])?;
     show(rt, "n k", &[chain(0, 1, 2), self_within(2)])?;
