@@ -33,11 +33,7 @@ pub fn check_admissible(base: &RuleBase<'_>) -> Result<(), Refusal>
 {
     match first_breaking(base) {
         None => Ok(()),
-        Some(place) => Err(Refusal {
-            reason: Reason::NotAdmissible,
-            place,
-            item: 0,
-        }),
+        Some(place) => Err(Reason::NotAdmissible.at(place, 0)),
     }
 }
 
