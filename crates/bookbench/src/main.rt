@@ -2,9 +2,8 @@
 // and how long it took to standard error.
 #![tactic(auto)]
 
-use marks::mark::{Marked, State, mark};
+use marks::mark::{Marked, mark};
 use marks::rules::RuleSet;
-use marks::store::MarkStore;
 use reasoner::book::BookRules;
 use rules::base::RuleBase;
 use rules::forms::{Kind, field_kinds};
@@ -49,23 +48,14 @@ fn field(plan: Plan, letter: char, kind: Option<Kind>, place: u16, field: u16) -
         None => 0,
         Some(Kind::Individual) => draw(place, field, plan.individuals),
         Some(Kind::Role) => draw(place, field, plan.roles),
-        Some(Kind::Class) => {
-            if plan.classes == 0 {
-                return 0;
-            }
-            if letter == 'c' {
-                return plan.classes - 1;
-            }
-            draw(place, field, plan.classes - 1)
-        }
+        Some(Kind::Class) if letter == 'c' => plan.classes.saturating_sub(1),
+        Some(Kind::Class) => draw(place, field, plan.classes.saturating_sub(1)),
     }
 }
 
 fn statement(plan: Plan, place: u16) -> Option<Statement> {
-    if plan.letters.len() == 0 {
-        return None;
-    }
-    let letter = plan.letters[place as usize % plan.letters.len()];
+    let turn = usize::from(place).checked_rem(plan.letters.len())?;
+    let letter = plan.letters[turn];
     let kinds = field_kinds(letter)?;
     Statement::new(
         letter,
@@ -85,87 +75,52 @@ fn statements(heap: Global, plan: Plan) -> Result<Vec<Statement>, AllocError> {
     Ok(all)
 }
 
+// Marks in words that are cleared first.
 fn in_words(rules: &BookRules, words: &mut [u64], most: u64) -> Option<Marked> {
     let mut table = WordTable::over(words);
-    if let Err(_) = table.set_up(rules.bound()) {
-        return None;
-    }
-    match mark(rules, &mut table, most) {
-        Ok(marked) => Some(marked),
-        Err(_) => None,
-    }
+    table.set_up(rules.bound()).ok()?;
+    mark(rules, &mut table, most).ok()
 }
 
+// Marks in slots that are freed first.
 fn in_slots(rules: &BookRules, slots: &mut [Option<u64>], most: u64) -> Option<Marked> {
     let mut table = SlotTable::over(slots);
     table.set_up(rules.bound());
-    match mark(rules, &mut table, most) {
-        Ok(marked) => Some(marked),
-        Err(_) => None,
-    }
+    mark(rules, &mut table, most).ok()
 }
 
-fn state_name(state: State) -> &'static str {
-    match state {
-        State::Done => "done",
-        State::Full => "full",
-        State::More => "more",
-    }
-}
-
-fn tell(
+// Makes the book of a plan, marks it in a table of the given name, and tells how many facts it has and how long marking took.
+fn run<F: FnOnce(&BookRules) -> Option<Marked>>(
     rt: &HostRuntime,
-    name: &str,
+    plan: Plan,
     table: &str,
-    marked: Option<Marked>,
-    micros: u128,
-) -> anyhow::Result<()> {
+    mark_in: F,
+) -> anyhow::Result<()>
+    requires { F.IsAlwaysCallable mark_in }
+{
+    let all = statements(rt.alloc(), plan)?;
+    let Ok(counts) = RuleBase::check(
+        plan.individuals as usize,
+        plan.classes as usize,
+        plan.roles as usize,
+        &all,
+    ) else {
+        println!(rt; "no such book")?;
+        return Ok(());
+    };
+    let rules = BookRules::over(RuleBase::new(counts, &all));
+    let start = Instant::now(rt)?;
+    let marked = mark_in(&rules);
+    let micros = start.elapsed(rt)?.as_micros();
+    let name = plan.name;
     match marked {
-        Some(marked) => {
-            let facts = marked.added;
-            let state = state_name(marked.state);
-            println!(rt; "{name}, {table}: {facts} facts, {state}")?;
-            eprintln!(rt; "{name}, {table}: {facts} facts in {micros} us")?;
+        Some(Marked { added, state }) => {
+            println!(rt; "{name}, {table}: {added} facts, {state}")?;
+            eprintln!(rt; "{name}, {table}: {added} facts in {micros} us")?;
         }
         None => println!(rt; "{name}, {table}: too little room")?,
     }
     Ok(())
-}
-
-fn run_words(rt: &HostRuntime, plan: Plan, words: &mut [u64]) -> anyhow::Result<()> {
-    let all = statements(rt.alloc(), plan)?;
-    let Ok(counts) = RuleBase::check(
-        plan.individuals as usize,
-        plan.classes as usize,
-        plan.roles as usize,
-        &all,
-    ) else {
-        println!(rt; "no such book")?;
-        return Ok(());
-    };
-    let rules = BookRules::over(RuleBase::new(counts, &all));
-    let start = Instant::now(rt)?;
-    let marked = in_words(&rules, words, plan.most);
-    let took = start.elapsed(rt)?;
-    tell(rt, plan.name, "word table", marked, took.as_micros())
-}
-
-fn run_slots(rt: &HostRuntime, plan: Plan, slots: &mut [Option<u64>]) -> anyhow::Result<()> {
-    let all = statements(rt.alloc(), plan)?;
-    let Ok(counts) = RuleBase::check(
-        plan.individuals as usize,
-        plan.classes as usize,
-        plan.roles as usize,
-        &all,
-    ) else {
-        println!(rt; "no such book")?;
-        return Ok(());
-    };
-    let rules = BookRules::over(RuleBase::new(counts, &all));
-    let start = Instant::now(rt)?;
-    let marked = in_slots(&rules, slots, plan.most);
-    let took = start.elapsed(rt)?;
-    tell(rt, plan.name, "slot table", marked, took.as_micros())
 }
 
 fn main(rt: HostRuntime) -> anyhow::Result<()> {
@@ -198,10 +153,19 @@ fn main(rt: HostRuntime) -> anyhow::Result<()> {
         letters: &EVERY_FORM,
         most: 100000,
     };
-    run_words(&rt, book, &mut words)?;
-    run_slots(&rt, book, &mut slots)?;
-    run_words(&rt, office, &mut words)?;
-    run_slots(&rt, office, &mut slots)?;
-    run_words(&rt, largest, &mut words)?;
-    Ok(())
+    run(&rt, book, "word table", |rules| {
+        in_words(rules, &mut words, book.most)
+    })?;
+    run(&rt, book, "slot table", |rules| {
+        in_slots(rules, &mut slots, book.most)
+    })?;
+    run(&rt, office, "word table", |rules| {
+        in_words(rules, &mut words, office.most)
+    })?;
+    run(&rt, office, "slot table", |rules| {
+        in_slots(rules, &mut slots, office.most)
+    })?;
+    run(&rt, largest, "word table", |rules| {
+        in_words(rules, &mut words, largest.most)
+    })
 }
