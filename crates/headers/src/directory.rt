@@ -1,7 +1,7 @@
 // The directory of a file: pairs of an offset and a length, 32 bits each.
 ghost use Rattle.std.specs.Prelude.{◌≡◌, ℕ, ◌+◌, ◌<◌, ◌≤◌, true, false, length, MatchOption};
 ghost use Rattle.headers.specs.Bytes.{long};
-ghost use Rattle.headers.specs.Header.{starts_at, end_at};
+ghost use Rattle.headers.specs.Header.{starts_at, end_at, pair};
 
 // The 32-bit numbers of a pair that starts at a place, if it lies in the file.
 fn pair_at(bytes: &[u8], place: usize) -> Option<(u32, u32)>
@@ -25,4 +25,13 @@ pub fn part_end(bytes: &[u8], place: usize, should: usize) -> Option<usize>
         return None;
     }
     Some(should + size as usize)
+}
+
+/// The bytes of a pair: where a part starts, and how long it is.
+pub fn pair_bytes(from: u32, size: u32) -> [u8; 8]
+    ensures { result ≡ pair from size }
+{
+    let [a, b, c, d] = from.to_be_bytes();
+    let [e, f, g, h] = size.to_be_bytes();
+    [a, b, c, d, e, f, g, h]
 }

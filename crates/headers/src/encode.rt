@@ -6,7 +6,7 @@ ghost use Rattle.headers.specs.Header.{listing, encode};
 ghost use Rattle.headers.specs.Output.{laid, Wrote, Kept};
 ghost use Rattle.headers.specs.Theorems.{ReadBack};
 
-use crate::output::{copy_at, put_front, put_records};
+use crate::output::{lay, put_front, put_records};
 use rules::refusals::{Reason, Refusal};
 use rules::statements::Statement;
 use std::convert::AsSlice;
@@ -16,8 +16,8 @@ fn put_line(out: &mut [u8], at: usize, name: &[u8])
     requires { at + (length name.now + 1) ≤ length out.old }
     ensures { out.new ≡ laid out.old at (line name.now) }
 {
-    copy_at(out, at, name);
-    copy_at(out, at + name.len(), b"\n");
+    lay(out, at, name);
+    lay(out, at + name.len(), b"\n");
 }
 
 // How long names are with their ends, if 32 bits can say it.

@@ -1,5 +1,5 @@
 // Writing a header.
-ghost use Rattle.std.specs.Prelude.{◌≡◌, ℕ, ◌+◌, ◌-◌, ◌*◌, ◌<◌, ◌≤◌, true, false, List, [], ◌∷◌, ◌++◌, length, MatchResult};
+ghost use Rattle.std.specs.Prelude.{◌≡◌, ℕ, ◌+◌, ◌-◌, ◌*◌, ◌<◌, ◌≤◌, true, false, ◌&&◌, List, [], ◌∷◌, ◌++◌, length, MatchResult, nat_le, nat_lt};
 ghost use Rattle.headers.specs.Bytes.{joined, four};
 ghost use Rattle.headers.specs.Records.{record_bytes};
 ghost use Rattle.headers.specs.Header.{pair, directory, encode, renamed, Named};
@@ -7,49 +7,47 @@ ghost use Rattle.headers.specs.Output.{laid, fits, too_short, Wrote, Kept};
 ghost use Rattle.headers.specs.Theorems.{ReadBack};
 ghost use Rattle.headers.specs.Views.{rewritten};
 
+use crate::directory::pair_bytes;
 use crate::header::{Header, Parts};
-use crate::record::letter_byte;
 use rules::refusals::{Reason, Refusal};
 use rules::statements::Statement;
 
-// Writes the bytes at `at`; all other bytes stay.
-pub(crate) fn copy_at(out: &mut [u8], at: usize, bytes: &[u8])
-    requires { at + length bytes.now ≤ length out.old }
-    ensures { out.new ≡ laid out.old at bytes.now }
+/// Writes the bytes at a place where they fit, and nothing where they do not; all other bytes stay.
+pub fn lay(out: &mut [u8], at: usize, bytes: &[u8])
+    ensures written { at + length bytes.now ≤ length out.old → out.new ≡ laid out.old at bytes.now }
+    ensures unwritten { length out.old < at + length bytes.now → out.new ≡ out.old }
 {
-    let part = &mut out[at..at + bytes.len()];
-    part.copy_from_slice(bytes);
+    if at <= out.len() && bytes.len() <= out.len() - at {
+        let part = &mut out[at..at + bytes.len()];
+        part.copy_from_slice(bytes);
+    }
 }
 
-// A pair of a directory.
-fn put_pair(out: &mut [u8], at: usize, from: usize, size: usize)
-    requires { (at + 8 ≤ length out.old) × ((from < 4294967296) × (size < 4294967296)) }
-    ensures { out.new ≡ laid out.old at (pair from size) }
+/// Whether so many bytes are few enough for a memory that has this room, and for 32 bits.
+pub fn fits(room: usize, size: u128) -> bool
+    ensures { result ≡ (nat_le size room && nat_lt size 4294967296) }
 {
-    let [a, b, c, d] = (from as u32).to_be_bytes();
-    let [e, f, g, h] = (size as u32).to_be_bytes();
-    copy_at(out, at, &[a, b, c, d, e, f, g, h]);
+    size <= room as u128 && size < 4294967296
 }
 
 // A statement's record.
-fn put_record(out: &mut [u8], at: usize, statement: Statement)
-    requires { at + 8 ≤ length out.old }
-    ensures { out.new ≡ laid out.old at (record_bytes statement) }
+fn record_bytes(statement: Statement) -> [u8; 8]
+    ensures { result ≡ record_bytes statement }
 {
-    let letter = letter_byte(statement);
+    let letter = statement.letter() as u8;
     let fields = statement.fields();
     let [a1, a0] = fields.first.to_be_bytes();
     let [b1, b0] = fields.second.to_be_bytes();
     let [c1, c0] = fields.third.to_be_bytes();
-    copy_at(out, at, &[letter, 0, a1, a0, b1, b0, c1, c0]);
+    [letter, 0, a1, a0, b1, b0, c1, c0]
 }
 
 pub(crate) fn put_records(out: &mut [u8], at: usize, statements: &[Statement])
     requires { at + 8 * length statements.now ≤ length out.old }
     ensures { out.new ≡ laid out.old at (joined record_bytes statements.now) }
 {
-    for i in 0..statements.len() {
-        put_record(out, at + 8 * i, statements[i]);
+    for (i, statement) in statements.iter().enumerate() {
+        lay(out, at + 8 * i, &record_bytes(*statement));
     }
 }
 
@@ -58,10 +56,13 @@ pub(crate) fn put_directory(out: &mut [u8], x: usize, c: usize, v: usize, s: usi
     requires { (32 ≤ length out.old) × (32 + x + c + v + s < 4294967296) }
     ensures { out.new ≡ laid out.old 0 (directory x c v s) }
 {
-    put_pair(out, 0, 32, x);
-    put_pair(out, 8, 32 + x, c);
-    put_pair(out, 16, 32 + x + c, v);
-    put_pair(out, 24, 32 + x + c + v, s);
+    let second = 32 + x as u32;
+    let third = second + c as u32;
+    let fourth = third + v as u32;
+    lay(out, 0, &pair_bytes(32, x as u32));
+    lay(out, 8, &pair_bytes(second, c as u32));
+    lay(out, 16, &pair_bytes(third, v as u32));
+    lay(out, 24, &pair_bytes(fourth, s as u32));
 }
 
 // Writes the directory of a header whose parts have these lengths, and answers how long the header is, if the output and 32
@@ -76,7 +77,7 @@ pub(crate) fn put_front(
     ensures { MatchResult result (λ n. (n ≡ 32 + x + c + v + 8 * statements) × (fits out.old n ≡ true) × (out.new ≡ laid out.old 0 (directory x c v (8 * statements)))) (λ e. (fits out.old (32 + x + c + v + 8 * statements) ≡ false) × (e ≡ too_short) × (out.new ≡ out.old)) }
 {
     let size = 32 + x as u128 + c as u128 + v as u128 + 8 * (statements as u128);
-    if size > out.len() as u128 || size >= 4294967296 {
+    if !fits(out.len(), size) {
         return Err(Reason::OutputTooShort.into());
     }
     put_directory(out, x, c, v, 8 * statements);
@@ -91,9 +92,9 @@ fn put_parts(out: &mut [u8], parts: &Parts<'_>, statements: &[Statement])
     let second = 32 + parts.individuals.len();
     let third = second + parts.classes.len();
     let fourth = third + parts.roles.len();
-    copy_at(out, 32, parts.individuals);
-    copy_at(out, second, parts.classes);
-    copy_at(out, third, parts.roles);
+    lay(out, 32, parts.individuals);
+    lay(out, second, parts.classes);
+    lay(out, third, parts.roles);
     put_records(out, fourth, statements);
 }
 

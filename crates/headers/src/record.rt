@@ -1,6 +1,5 @@
 // The record of a statement: eight bytes.
 ghost use Rattle.std.specs.Prelude.{◌≡◌, ℕ, ◌+◌, ◌*◌, ◌<◌, ◌≤◌, ◌&&◌, length, take, drop, MatchOption, ◌==◌};
-ghost use Rattle.rules.specs.Statements.{letter_of};
 ghost use Rattle.headers.specs.Bytes.{at};
 ghost use Rattle.headers.specs.Records.{known_letter, record_in, stated, wrong_in_record};
 
@@ -72,11 +71,4 @@ impl Record {
         } = self.fields;
         Statement::new(char::from(self.letter), first, second, third)
     }
-}
-
-// The letter as a byte.
-pub(crate) fn letter_byte(statement: Statement) -> u8
-    ensures { result ≡ letter_of statement }
-{
-    statement.letter() as u8
 }

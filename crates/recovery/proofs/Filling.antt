@@ -108,5 +108,5 @@ module _ (o h : List ℕ) (es : List Entry) where
     bytes = f ∙ laid_front o (recovery_bytes h es);
   }
 
-  pub kept : fits o (16 + length h + 14 * length es) ≡ false → Kept o o (recovery_bytes h es) too_short
-  kept l = record { room = ap (fits o) (recovery_length h es) ∙ l; refused = refl; bytes = refl }
+  pub kept : (e : Refusal) → e ≡ too_short → fits o (16 + length h + 14 * length es) ≡ false → Kept o o (recovery_bytes h es) e
+  kept e is l = record { room = ap (fits o) (recovery_length h es) ∙ l; refused = is; bytes = refl }

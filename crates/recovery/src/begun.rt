@@ -5,6 +5,8 @@ ghost use Rattle.headers.specs.Output.{laid, fits, too_short};
 ghost use Rattle.recovery.specs.Begun.{entry_bytes, two_pairs, begun_bytes, no_room, stands, begun_at, begun_output, closed_output, closed_length, Added, Unadded};
 
 use crate::entry::Entry;
+use headers::directory::pair_bytes;
+use headers::output::{fits, lay};
 use rules::refusals::{Reason, Refusal};
 
 /// A begun recovery file on a lent output: where its next entry goes, and how long its header is.
@@ -14,46 +16,16 @@ pub struct Begun<'a> {
     header: usize,
 }
 
-// Writes the bytes at `at`; all other bytes stay.
-fn copy_at(out: &mut [u8], at: usize, bytes: &[u8])
-    requires { at + length bytes.now ≤ length out.old }
-    ensures { out.new ≡ laid out.old at bytes.now }
-{
-    let part = &mut out[at..at + bytes.len()];
-    part.copy_from_slice(bytes);
-}
-
-// A pair of the directory.
-fn put_pair(out: &mut [u8], at: usize, from: usize, size: usize)
-    requires { (at + 8 ≤ length out.old) × ((from < 4294967296) × (size < 4294967296)) }
-    ensures { out.new ≡ laid out.old at (pair from size) }
-{
-    let [a, b, c, d] = (from as u32).to_be_bytes();
-    let [e, f, g, h] = (size as u32).to_be_bytes();
-    copy_at(out, at, &[a, b, c, d, e, f, g, h]);
-}
-
-// Whether so many bytes and `more` fit an output that has `room` bytes, and 32 bits.
-fn finds_room(room: usize, size: usize, more: usize) -> bool
-    requires { more < 17 }
-    ensures { result ≡ (nat_le (size + more) room && nat_lt (size + more) 4294967296) }
-{
-    size < 4294967296 && size + more < 4294967296 && size + more <= room
-}
-
 /// Whether a recovery file of this header can be begun in the output: if 16 bytes and the header are too long for it, or
 /// past 32 bits, that is refused.
 pub fn room(out: &[u8], header: &[u8]) -> Result<(), Refusal>
     ensures { MatchResult result (λ _. fits out.now (length header.now + 16) ≡ true) (λ e. (fits out.now (length header.now + 16) ≡ false) × (e ≡ too_short)) }
 {
-    if finds_room(out.len(), header.len(), 16) {
-        return Ok(());
+    if fits(out.len(), header.len() as u128 + 16) {
+        Ok(())
+    } else {
+        Err(Reason::OutputTooShort.into())
     }
-    Err(Refusal {
-        reason: Reason::OutputTooShort,
-        place: 0,
-        item: 0,
-    })
 }
 
 // Sixteen zero bytes and the header.
@@ -61,8 +33,8 @@ fn put_front(out: &mut [u8], header: &[u8])
     requires { 16 + length header.now ≤ length out.old }
     ensures { out.new ≡ laid out.old 0 (begun_bytes header.now) }
 {
-    copy_at(out, 0, &[0u8; 16]);
-    copy_at(out, 16, header);
+    lay(out, 0, &[0u8; 16]);
+    lay(out, 16, header);
 }
 
 /// Begins a recovery file: writes sixteen zero bytes and the header. Where `room` refuses, nothing is written, and the file
@@ -74,7 +46,7 @@ pub fn begin<'a>(out: &'a mut [u8], header: &[u8]) -> Begun<'a>
     ensures header { result.header ≡ length header.now }
 {
     let size = header.len();
-    let at = if finds_room(out.len(), size, 16) {
+    let at = if fits(out.len(), size as u128 + 16) {
         put_front(out, header);
         16 + size
     } else {
@@ -95,15 +67,10 @@ impl<'a> Begun<'a> {
         ensures cases { MatchResult result (λ _. Added self.old.out.now self.new.out.now self.old.at self.new.at entry) (λ e. Unadded self.old.out.now self.old.at e × (self.new ≡ self.old)) }
     {
         let at = self.at;
-        let room = self.out.len();
-        if !finds_room(room, at, 14) {
-            return Err(Refusal {
-                reason: Reason::OutputTooShort,
-                place: 0,
-                item: 0,
-            });
+        if !fits(self.out.len(), at as u128 + 14) {
+            return Err(Reason::OutputTooShort.into());
         }
-        put_entry(self.out, at, entry);
+        lay(self.out, at, &entry_bytes(entry));
         self.at = at + 14;
         Ok(())
     }
@@ -123,9 +90,8 @@ impl<'a> Begun<'a> {
 }
 
 // The fourteen bytes of an entry.
-fn put_entry(out: &mut [u8], at: usize, entry: Entry)
-    requires { at + 14 ≤ length out.old }
-    ensures { out.new ≡ laid out.old at (entry_bytes entry) }
+fn entry_bytes(entry: Entry) -> [u8; 14]
+    ensures { result ≡ entry_bytes entry }
 {
     let [a1, a0] = entry.first.to_be_bytes();
     let [b1, b0] = entry.role.to_be_bytes();
@@ -133,26 +99,22 @@ fn put_entry(out: &mut [u8], at: usize, entry: Entry)
     let [d1, d0] = entry.place.to_be_bytes();
     let [u1, u0] = entry.u.to_be_bytes();
     let [w1, w0] = entry.w.to_be_bytes();
-    copy_at(
-        out,
-        at,
-        &[
-            entry.letter,
-            entry.rule,
-            a1,
-            a0,
-            b1,
-            b0,
-            c1,
-            c0,
-            d1,
-            d0,
-            u1,
-            u0,
-            w1,
-            w0,
-        ],
-    );
+    [
+        entry.letter,
+        entry.rule,
+        a1,
+        a0,
+        b1,
+        b0,
+        c1,
+        c0,
+        d1,
+        d0,
+        u1,
+        u0,
+        w1,
+        w0,
+    ]
 }
 
 // Whether the file was begun with room.
@@ -167,6 +129,7 @@ fn put_directory(out: &mut [u8], header: usize, entries: usize)
     requires { (16 ≤ length out.old) × (16 + header + entries < 4294967296) }
     ensures { out.new ≡ laid out.old 0 (two_pairs header entries) }
 {
-    put_pair(out, 0, 16, header);
-    put_pair(out, 8, 16 + header, entries);
+    let size = header as u32;
+    lay(out, 0, &pair_bytes(16, size));
+    lay(out, 8, &pair_bytes(16 + size, entries as u32));
 }

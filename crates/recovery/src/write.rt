@@ -5,29 +5,16 @@ ghost use Rattle.recovery.specs.Begun.{recovery_bytes};
 
 use crate::begun::begin;
 use crate::entry::Entry;
+use headers::output::fits;
 use rules::refusals::{Reason, Refusal};
-
-// Whether a recovery file with so many entries has room, and 32 bits for its length.
-fn has_room(out: &[u8], header: &[u8], entries: usize) -> bool
-    ensures { result ≡ fits out.now (16 + length header.now + 14 * entries) }
-{
-    if header.len() >= 4294967296 || entries >= 4294967296 {
-        return false;
-    }
-    let size = 16 + header.len() + 14 * entries;
-    size <= out.len() && size < 4294967296
-}
 
 /// Writes the recovery file of a header and entries, and answers its length. Neither is judged.
 pub fn write_recovery(header: &[u8], entries: &[Entry], out: &mut [u8]) -> Result<usize, Refusal>
     ensures { MatchResult result (λ n. Wrote out.old out.new (recovery_bytes header.now entries.now) n) (λ e. Kept out.old out.new (recovery_bytes header.now entries.now) e) }
 {
-    if !has_room(out, header, entries.len()) {
-        return Err(Refusal {
-            reason: Reason::OutputTooShort,
-            place: 0,
-            item: 0,
-        });
+    let size = 16 + header.len() as u128 + 14 * (entries.len() as u128);
+    if !fits(out.len(), size) {
+        return Err(Reason::OutputTooShort.into());
     }
     Ok(fill(out, header, entries))
 }
@@ -38,8 +25,8 @@ fn fill(out: &mut [u8], header: &[u8], entries: &[Entry]) -> usize
     ensures bytes { out.new ≡ laid out.old 0 (recovery_bytes header.now entries.now) }
 {
     let mut file = begin(out, header);
-    for i in 0..entries.len() {
-        let _ = file.put(entries[i]);
+    for entry in entries {
+        let _ = file.put(*entry);
     }
     file.close()
 }
