@@ -21,6 +21,7 @@ pub fn first_breaking(base: &RuleBase<'_>) -> Option<usize>
     ensures { MatchOption result (Admissible base.now.statements.now) (λ p. FirstBreaking base.now.statements.now p) }
 {
     let rules = RoleRules { base: *base };
+    // A bit for each of 8,224 role facts, the most that there can be: the engine uses no heap.
     let mut words = [0u64; 129];
     let mut table = WordTable::over(&mut words);
     let _ = table.set_up(rules.bound());
