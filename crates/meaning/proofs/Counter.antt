@@ -10,8 +10,8 @@ use Rattle.rules.specs.declared.statements.Statement.TheVariants.{Member, Relate
 use Rattle.calculus.specs.Trees.{In, here, there, All, Closed}
 use Rattle.calculus.specs.Tests.{Decides}
 use Rattle.calculus.specs.Places.{At}
-use Rattle.roles.specs.Roles.{IsNonSimple, IsSimple, Told}
-use Rattle.meaning.proofs.RoleSteps.{chain_nonsimple, subrole_nonsimple, role_tree}
+use Rattle.roles.specs.Roles.{IsNonSimple, IsSimple, Told, chain_nonsimple, subrole_nonsimple}
+use Rattle.meaning.proofs.RoleSteps.{role_tree}
 use Rattle.calculus.specs.Steps.{Step, Follows, by}
 use Rattle.calculus.specs.Steps.{rule_1, rule_2, rule_3, rule_5a, rule_5e, rule_5f, rule_5g, rule_6, rule_7, rule_8, rule_9j, rule_9b, rule_10j, rule_11, rule_12, rule_13, rule_14, rule_15, rule_16, rule_17, rule_18, rule_19, rule_20, rule_21, rule_22, rule_23, rule_24, rule_25, rule_26, rule_27, rule_28, rule_29}
 use Rattle.calculus.specs.declared.terms.First.{First}
@@ -294,7 +294,7 @@ module _ (n : ℕ) (ss : List Statement) (told : Told ss) (marked : Fact → Boo
     reach a (looped h) m = close (rule_8 a) (h, (m, tt))
 
     subrole : {p R Q s t : ℕ} → At ss p (Subrole R Q) → T (thing s) → T (thing t) → Held R s t → T (role Q s t)
-    subrole {R} {Q} {s} {t} a f g (linked h (inl m)) = role_linked Q s t f g (close (rule_13 a) (h, tt)) (inl ((nonsimple_decides Q).back (role_tree (subrole_nonsimple a) ((nonsimple_decides R).out m, tt))))
+    subrole {R} {Q} {s} {t} a f g (linked h (inl m)) = role_linked Q s t f g (close (rule_13 a) (h, tt)) (inl ((nonsimple_decides Q).back (role_tree a subrole_nonsimple ((nonsimple_decides R).out m, tt))))
     subrole {Q} {s} {t} a f g (linked h (inr m)) = role_linked Q s t f g (close (rule_13 a) (h, tt)) (inr m)
     subrole {Q} {s} a f g (looped h) = role_looped Q s f (close (rule_14 a) (h, tt))
 
@@ -364,7 +364,7 @@ module _ (n : ℕ) (ss : List Statement) (told : Told ss) (marked : Fact → Boo
     satisfied p (SelfWithin R C) a = λ s h. (class_decides C s).back ((role_things R s s h).0, close (rule_11 a) (simple_self (proper.admissible _ _ a) (role_out R s s h) refl, tt))
     satisfied p (SelfPaired A R) a = λ s h. let g = (class_decides A s).out h in role_looped R s g.0 (close (rule_12 a) (g.1, tt))
     satisfied p (Subrole R Q) a = λ s t h. let g = role_things R s t h in subrole a g.0 g.1 (role_out R s t h)
-    satisfied p (Chain R S Q) a = λ s t u h g. role_linked Q s u (role_things R s t h).0 (role_things S t u g).1 (chained a (role_out R s t h) (role_out S t u g)) (inl ((nonsimple_decides Q).back (role_tree (chain_nonsimple a) tt)))
+    satisfied p (Chain R S Q) a = λ s t u h g. role_linked Q s u (role_things R s t h).0 (role_things S t u g).1 (chained a (role_out R s t h) (role_out S t u g)) (inl ((nonsimple_decides Q).back (role_tree a chain_nonsimple tt)))
     satisfied p (RoleBoth R S Q) a = λ s t h g.
         let u = role_out R s t h in
         let v = role_out S s t g in

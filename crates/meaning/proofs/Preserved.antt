@@ -4,8 +4,8 @@ use Rattle.rules.specs.declared.statements.Statement.{Statement}
 use Rattle.rules.specs.declared.statements.Statement.TheVariants.{Empty, Requires, Chain}
 use Rattle.calculus.specs.Trees.{All, fold}
 use Rattle.calculus.specs.Places.{At, AllWellFormed}
-use Rattle.roles.specs.Roles.{Admissible, IsSimple, IsRange}
-use Rattle.meaning.proofs.RoleSteps.{Stepped, chain_nonsimple, subrole_nonsimple, stated_range, subrole_range, role_tree, role_fold}
+use Rattle.roles.specs.Roles.{Admissible, IsSimple, IsRange, Gives, chain_nonsimple, subrole_nonsimple, stated_range, subrole_range}
+use Rattle.meaning.proofs.RoleSteps.{role_tree, role_fold}
 use Rattle.calculus.specs.Steps.{Step, Follows, by, HasTree}
 use Rattle.calculus.specs.Steps.{rule_1, rule_2, rule_3, rule_4, rule_5a, rule_5e, rule_5f, rule_5g, rule_6, rule_7, rule_8, rule_9j, rule_9b, rule_10j, rule_10b, rule_11, rule_12, rule_13, rule_14, rule_15, rule_16, rule_17, rule_18, rule_19, rule_20, rule_21, rule_22, rule_23, rule_24, rule_25, rule_26, rule_27, rule_28, rule_29}
 use Rattle.roles.specs.declared.facts.RoleFact.{RoleFact}
@@ -60,14 +60,14 @@ module _ {n : ℕ} (k r : ℕ) (ss : List Statement) (I : Interpretation n) wher
   RoleSays (Range R D) = (s t : ℕ) → InRole I R s t → InClass I D t
 
   module _ (well_formed : AllWellFormed n k r ss) (admissible : Admissible ss) (sat : SatisfiesAll I ss) where
-    role_step : {fs : List RoleFact} {f : RoleFact} → Stepped ss fs f → All RoleSays fs → RoleSays f
-    role_step (chain_nonsimple a) h = tt
-    role_step (subrole_nonsimple a) h = tt
-    role_step (stated_range a) h = λ s t e. (sat _ _ a s t e).1
-    role_step (subrole_range a) h = λ s t e. h.0 s t (sat _ _ a s t e)
+    role_step : (p : ℕ) (s : Statement) (fs : List RoleFact) (f : RoleFact) → At ss p s → Gives s fs f → All RoleSays fs → RoleSays f
+    role_step p _ _ _ a chain_nonsimple h = tt
+    role_step p _ _ _ a subrole_nonsimple h = tt
+    role_step p _ _ _ a stated_range h = λ s t e. (sat _ _ a s t e).1
+    role_step p _ _ _ a subrole_range h = λ s t e. h.0 s t (sat _ _ a s t e)
 
     in_range : {R D : ℕ} → IsRange ss R D → (s t : ℕ) → InRole I R s t → InClass I D t
-    in_range h = role_fold RoleSays (λ fs f s g. role_step s g) h
+    in_range h = role_fold RoleSays role_step h
 
     is_thing : (c : First) (t : ℕ) → Is c t → Thing I t
     is_thing (first.Individual x) t h = subst (λ u. Thing I u) (sym h.1) (I.individual_thing x h.0)
@@ -97,7 +97,7 @@ module _ {n : ℕ} (k r : ℕ) (ss : List Statement) (I : Interpretation n) wher
     linked_chain : {p R S Q : ℕ} (c d : First) → At ss p (Chain R S Q) → StandsForSome I ss c → StandsForSome I ss d → ((s : ℕ) → Is c s → (t : ℕ) × InRole I Q s t × Is d t) → ((D t : ℕ) → IsRange ss S D → Is d t → InClass I D t) → Linked c Q d
     linked_chain c d a u v f g = record {
       says = record { start = u; end = v; pairs = f; ranges = λ D t m i. g D t (admissible _ _ a D m) i };
-      strong = λ m. absurd (m (role_tree (chain_nonsimple a) tt));
+      strong = λ m. absurd (m (role_tree a chain_nonsimple tt));
     }
 
     pairs_both : (c d : First) (R S : ℕ) → PairSays I ss c R d → PairSays I ss c S d → Strong c R d → Strong c S d → (s : ℕ) → Is c s → (t : ℕ) × InRole I R s t × InRole I S s t × Is d t
@@ -142,9 +142,9 @@ module _ {n : ℕ} (k r : ℕ) (ss : List Statement) (I : Interpretation n) wher
         start = h.0.says.start;
         end = h.0.says.end;
         pairs = λ s e. let w = h.0.says.pairs s e in (w.0, sat _ _ a s w.0 w.1, w.2);
-        ranges = λ D t g i. h.0.says.ranges D t (role_tree (subrole_range a) (g, tt)) i;
+        ranges = λ D t g i. h.0.says.ranges D t (role_tree a subrole_range (g, tt)) i;
       };
-      strong = λ m. elim (h.0.strong (λ g. m (role_tree (subrole_nonsimple a) (g, tt)))) [
+      strong = λ m. elim (h.0.strong (λ g. m (role_tree a subrole_nonsimple (g, tt)))) [
         | inl f ↦ inl (λ s t e i. sat _ _ a s t (f s t e i))
         | inr f ↦ inr (f.0, λ s t e i. sat _ _ a s t (f.1 s t e i))
       ];
@@ -171,7 +171,7 @@ module _ {n : ℕ} (k r : ℕ) (ss : List Statement) (I : Interpretation n) wher
     preserve (rule_22 a) h = (h.0.0, λ t e. sat _ _ a t t (h.0.1 t e) (h.1.0.1 t e))
     preserve (rule_23 a) h = (h.0.says.start, λ t e. let w = h.0.says.pairs t e in (sat _ _ a t w.0 w.1).0)
     preserve (rule_24 a) h = (h.0.0, λ t e. (sat _ _ a t t (h.0.1 t e)).0)
-    preserve (rule_25 {D} a) h = (h.0.says.end, λ t e. h.0.says.ranges D t (role_tree (stated_range a) tt) e)
+    preserve (rule_25 {D} a) h = (h.0.says.end, λ t e. h.0.says.ranges D t (role_tree a stated_range tt) e)
     preserve (rule_26 a) h = (h.0.0, λ t e. (sat _ _ a t t (h.0.1 t e)).1)
     preserve (rule_27 {x} {z} l) h = ((I.individual x, (l, refl)), λ t e. subst (λ u. Describes I z u) (h.0.1 _ h.0.0.1 ∙ sym e.1) (h.1.0.1 _ h.0.0.1))
     preserve (rule_28 l) h = (h.0.0, λ t e. h.1.0.1 t (l, h.0.1 t e))

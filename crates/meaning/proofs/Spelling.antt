@@ -1,24 +1,18 @@
 -- A statement with a known letter is known by its fields; a statement at a place of a longer row.
-use Rattle.std.proofs.Common.{◌≡◌, ℕ, zero, suc, List, [], ◌∷◌, get_or, Some, sym, refl, ap, ◌∙◌, arith}
-use Rattle.rules.specs.Statements.{letter_of, fields_of, statement_of, ToldApart}
+use Rattle.std.proofs.Common.{◌≡◌, ℕ, zero, suc, List, [], ◌∷◌, get_or, refl, arith}
+use Rattle.rules.specs.Statements.{letter_of, fields_of}
 use Rattle.rules.specs.declared.statements.Statement.{Statement}
 use Rattle.rules.specs.declared.statements.Statement.TheVariants.{Empty, Requires}
 use Rattle.rules.specs.Places.{At, at_before}
 
-told_apart : ToldApart
-told_apart s = grind arith
-
 abbrev pub field : Statement → ℕ → ℕ
 field s i = get_or ((fields_of s).first ∷ (fields_of s).second ∷ (fields_of s).third ∷ []) i 0
 
-by_letter : (s : Statement) (letter : ℕ) → letter_of s ≡ letter → statement_of letter (field s 0) (field s 1) (field s 2) ≡ Some s
-by_letter s letter e = ap (λ l. statement_of l (field s 0) (field s 1) (field s 2)) (sym e) ∙ told_apart s
-
 pub is_empty : (s : Statement) → letter_of s ≡ 99 → s ≡ Empty (field s 0)
-is_empty s e = let h = by_letter s 99 e in cc
+is_empty s e = grind arith
 
 pub is_requires : (s : Statement) → letter_of s ≡ 106 → s ≡ Requires (field s 0) (field s 1) (field s 2)
-is_requires s e = let h = by_letter s 106 e in cc
+is_requires s e = grind arith
 
 -- A statement at a place is the first, or one of those after it.
 pub at_view : (P : Type 0) {t s : Statement} {ss : List Statement} (p : ℕ) → At (t ∷ ss) p s → (p ≡ 0 → t ≡ s → P) → ((q : ℕ) → p ≡ suc q → At ss q s → P) → P
