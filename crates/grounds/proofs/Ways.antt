@@ -3,14 +3,14 @@ use mathlib.Core.Path.{◌≡◌, refl, sym, subst, ap, ap₂, ◌∙◌}
 use mathlib.Core.Bool.{Bool, false}
 use mathlib.Core.List.{List, []}
 use mathlib.Core.Logic.{inl, inr, ⊎_elim}
-use Prim.Native.Nat.{ℕ, ◌+◌, ◌≤◌}
+use Prim.Native.Nat.{ℕ, ◌+◌, ◌-◌, ◌≤◌}
 use native.Mathlib.Omega.{arith}
 use lib.ListN.{length}
 use Rattle.rules.specs.Limits.{most_statements}
 use Rattle.rules.specs.Places.{At, at_one}
 use Rattle.rules.specs.Formed.{AllWellFormed}
 use Rattle.rules.specs.declared.statements.Statement.{Statement}
-use Rattle.rules.specs.declared.statements.Statement.TheVariants.{Member, Related, Empty, Universal, Only, Nominal, Subclass, Both, Reaches, Requires, SelfWithin, SelfPaired, Subrole, Chain, RoleBoth, Product, DomainRange}
+use Rattle.rules.specs.declared.statements.Statement.TheVariants.{Empty}
 use Rattle.calculus.specs.Trees.{All, all_more}
 use Rattle.calculus.specs.Tests.{Decides}
 use Rattle.calculus.specs.Terms.{first_number, first_at, second_at, ground_of, by_rule}
@@ -23,11 +23,10 @@ use Rattle.calculus.specs.declared.terms.Second.TheVariants as second
 use Rattle.calculus.specs.declared.terms.Ground.{Ground}
 use Rattle.calculus.specs.declared.terms.Fact.{Fact}
 use Rattle.calculus.specs.declared.terms.Fact.TheVariants.{Instance, SelfPair, Pair}
-use Rattle.linetable.specs.Table.{key, lines, fill, start, finish, ground_at, Among, Fits}
+use Rattle.linetable.specs.Table.{key, lines, in_four, fill, start, finish, ground_at, Among, Fits}
+use Rattle.linetable.specs.Fitting.{fits_touches, fits_suits, fits_in, among_in, in_among}
 use Rattle.linetable.specs.Lines.{Way, by_line, alone, looped, clash, there_to, back_from, along, complete, sound}
-use Rattle.linetable.specs.declared.shapes.Key.{Key}
 use Rattle.linetable.specs.declared.shapes.Line.{Line}
-use Rattle.linetable.specs.declared.shapes.Said.TheVariants.{Nothing}
 use Rattle.grounds.specs.Given.{Held, GivesHeld, given_for, LineGives, SaidGives}
 use Rattle.grounds.specs.Rules.{ByRule1, ByRule2, ByRule4, ByRule27, ByRule28, ByRule29, Unplaced, Placed}
 use Rattle.calculus.specs.TermNumbers.{first_at_its_number, second_at_its_number, first_number_at, second_number_at}
@@ -89,77 +88,15 @@ module _ (n k r : ℕ) (ss : List Statement) (held : ℕ → Bool) where
   pub unplaced_gives : (f : Fact) (w : Ground) → Unplaced n k r held f w → G w f
   unplaced_gives f w h = ⊎_elim (rule_1_gives f w) (⊎_elim (rule_2_gives f w) (⊎_elim (rule_27_gives f w) (⊎_elim (rule_28_gives f w) (rule_29_gives f w)))) h
 
-  said_gives : (f : Fact) (w : Ground) (p : ℕ) (s : Statement) → At ss p s → SaidGives n k r held f w (key s) p (lines p s) → G w f
+  said_gives : (f : Fact) (w : Ground) (p : ℕ) (s : Statement) → At ss p s → SaidGives n k r held f w (key s) p (in_four (lines p s)) → G w f
   said_gives f w p s at h =
-      let o = sound n k ss H s (finish f) at h.among h.gives.fits h.gives.given h.gives.second in
-      subst (λ v. G v f) h.gives.told (subst (λ t. G (ground_at n p h.line (given_for n f w (key s) h.line)) t) h.gives.conclusion o)
-
-  none_among : {l : Line} → Among l Nothing → ⊥
-  none_among i = elim i [ ]
+      let g = given_for n f w (key s) h.line in
+      let i = in_among (lines p s) (4 - length (lines p s)) h.among in
+      let o = sound n k ss H s (finish f) at i (fits_in (key s) h.line.pair g h.gives.0.0 h.gives.0.1) h.gives.0.2 h.gives.1 in
+      subst (λ v. G v f) h.gives.3 (subst (λ t. G (ground_at n p h.line g) t) h.gives.2.0 o)
 
   pub placed_gives : (f : Fact) (w : Ground) (p : ℕ) (s : Statement) → At ss p s → Placed n k r p s held f w → G w f
-  placed_gives f w p (Member x C) at h = said_gives f w p (Member x C) at h
-  placed_gives f w p (Related x R y) at h = said_gives f w p (Related x R y) at h
-  placed_gives f w p (Empty A) at h = rule_4_gives f w p A at h
-  placed_gives f w p (Universal C) at h = said_gives f w p (Universal C) at h
-  placed_gives f w p (Only A x) at h = said_gives f w p (Only A x) at h
-  placed_gives f w p (Nominal x C) at h = said_gives f w p (Nominal x C) at h
-  placed_gives f w p (Subclass A C) at h = said_gives f w p (Subclass A C) at h
-  placed_gives f w p (Both A B C) at h = said_gives f w p (Both A B C) at h
-  placed_gives f w p (Reaches R A C) at h = said_gives f w p (Reaches R A C) at h
-  placed_gives f w p (Requires A R B) at h = said_gives f w p (Requires A R B) at h
-  placed_gives f w p (SelfWithin R C) at h = said_gives f w p (SelfWithin R C) at h
-  placed_gives f w p (SelfPaired A R) at h = said_gives f w p (SelfPaired A R) at h
-  placed_gives f w p (Subrole R Q) at h = said_gives f w p (Subrole R Q) at h
-  placed_gives f w p (Chain R S Q) at h = said_gives f w p (Chain R S Q) at h
-  placed_gives f w p (RoleBoth R S Q) at h = said_gives f w p (RoleBoth R S Q) at h
-  placed_gives f w p (Product A B R) at h = said_gives f w p (Product A B R) at h
-  placed_gives f w p (DomainRange R C D) at h = said_gives f w p (DomainRange R C D) at h
-
-  no_line : {f : Fact} {w : Ground} {on : Key} {p : ℕ} → SaidGives n k r held f w on p Nothing → ⊥
-  no_line h = none_among h.among
-
-  said_placed : {f : Fact} {w : Ground} (p : ℕ) (s : Statement) → SaidGives n k r held f w (key s) p (lines p s) → Placed n k r p s held f w
-  said_placed p (Member x C) h = h
-  said_placed p (Related x R y) h = h
-  said_placed p (Empty A) h = absurd (no_line h)
-  said_placed p (Universal C) h = h
-  said_placed p (Only A x) h = h
-  said_placed p (Nominal x C) h = h
-  said_placed p (Subclass A C) h = h
-  said_placed p (Both A B C) h = h
-  said_placed p (Reaches R A C) h = h
-  said_placed p (Requires A R B) h = h
-  said_placed p (SelfWithin R C) h = h
-  said_placed p (SelfPaired A R) h = h
-  said_placed p (Subrole R Q) h = h
-  said_placed p (Chain R S Q) h = h
-  said_placed p (RoleBoth R S Q) h = h
-  said_placed p (Product A B R) h = h
-  said_placed p (DomainRange R C D) h = h
-
-  -- a statement that is not of form c gives by its lines
-  pub placed_said : (f : Fact) (w : Ground) (p : ℕ) (s : Statement) → ((A : ℕ) → s ≡ Empty A → ⊥) → Placed n k r p s held f w → SaidGives n k r held f w (key s) p (lines p s)
-  placed_said f w p (Member x C) e h = h
-  placed_said f w p (Related x R y) e h = h
-  placed_said f w p (Empty A) e h = absurd (e A refl)
-  placed_said f w p (Universal C) e h = h
-  placed_said f w p (Only A x) e h = h
-  placed_said f w p (Nominal x C) e h = h
-  placed_said f w p (Subclass A C) e h = h
-  placed_said f w p (Both A B C) e h = h
-  placed_said f w p (Reaches R A C) e h = h
-  placed_said f w p (Requires A R B) e h = h
-  placed_said f w p (SelfWithin R C) e h = h
-  placed_said f w p (SelfPaired A R) e h = h
-  placed_said f w p (Subrole R Q) e h = h
-  placed_said f w p (Chain R S Q) e h = h
-  placed_said f w p (RoleBoth R S Q) e h = h
-  placed_said f w p (Product A B R) e h = h
-  placed_said f w p (DomainRange R C D) e h = h
-
-  pub said_decides : (f : Fact) (w : Ground) (p : ℕ) (s : Statement) (t : Bool) → ((A : ℕ) → s ≡ Empty A → ⊥) → Decides t (SaidGives n k r held f w (key s) p (lines p s)) → Decides t (Placed n k r p s held f w)
-  said_decides f w p s t e d = record { out = λ h. said_placed p s (d.out h); back = λ g. d.back (placed_said f w p s e g) }
+  placed_gives f w p s at h = ⊎_elim (said_gives f w p s at) (λ c. rule_4_gives f w p c.0 (subst (At ss p) c.1 at) c.2) h
 
   -- ── what gives is in the definitions ──
   starts : (f : Fact) → H f → FirstInside n (start f)
@@ -203,17 +140,21 @@ module _ (n k r : ℕ) (ss : List Statement) (held : ℕ → Bool) where
       let b = back n k r s p z i f m.inside in
       let e = sym b.given in
       let F = fill g z l.conclusion in
-      record {
-        inside = ins;
-        fits = subst (λ t. Fits (key s) l.pair t) e f;
-        given = subst (λ t. H t) e m;
-        second = subst (λ t. H (fill t (finish F) l.second)) e (subst (λ t. H t) (sym b.second) d);
-        conclusion = subst (λ t. fill t (finish F) l.conclusion ≡ F) e b.conclusion;
-        told = subst (λ t. ground_at n p l t ≡ ground_at n p l g) e refl;
-      }
+      let fits = subst (λ t. Fits (key s) l.pair t) e f in (
+        (fits_touches fits, fits_suits fits, subst (λ t. H t) e m),
+        subst (λ t. H (fill t (finish F) l.second)) e (subst (λ t. H t) (sym b.second) d),
+        (subst (λ t. fill t (finish F) l.conclusion ≡ F) e b.conclusion, ins),
+        subst (λ t. ground_at n p l t ≡ ground_at n p l g) e refl,
+      )
 
   way_stated : {f : Fact} {w : Ground} → W f w → (w.place ≡ 0 → ⊥) → Inside n k r f → Stated f w
-  way_stated (by_line {s = s} {p = p} {l = l} {g = g} z at i f zi m d) e ins = record { place = p; statement = s; at = at; is = refl; gives = said_placed p s (record { line = l; among = i; gives = line_gives s p z i f m d ins }) }
+  way_stated (by_line {s = s} {p = p} {l = l} {g = g} z at i f zi m d) e ins = record {
+    place = p;
+    statement = s;
+    at = at;
+    is = refl;
+    gives = inl (record { line = l; among = among_in (lines p s) (4 - length (lines p s)) i; gives = line_gives s p z i f m d ins });
+  }
   way_stated (alone l) e ins = absurd (e refl)
   way_stated (looped l m) e ins = absurd (e refl)
   way_stated (clash {p = p} {A = A} {C = C} {u = u} {x = x} {w = w} at l mu mx) e ins = record {
@@ -221,7 +162,7 @@ module _ (n k r : ℕ) (ss : List Statement) (held : ℕ → Bool) where
     statement = Empty A;
     at = at;
     is = refl;
-    gives = (l, at_term (λ t. Instance t (second.Class A)) u mu.inside.0 mu, subst (λ t. H (Instance x t)) (sym (second_at_its_number n k w mx.inside.1)) mx, refl);
+    gives = inr (A, refl, (l, at_term (λ t. Instance t (second.Class A)) u mu.inside.0 mu, subst (λ t. H (Instance x t)) (sym (second_at_its_number n k w mx.inside.1)) mx, refl));
   }
   way_stated (there_to l m d) e ins = absurd (e refl)
   way_stated (back_from l m d) e ins = absurd (e refl)

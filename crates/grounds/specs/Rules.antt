@@ -2,14 +2,14 @@
 -- w from held facts. Rules 1, 2, 27, 28 and 29 have no statement; rule 4 has a statement of form c.
 use Rattle.std.specs.Prelude.{◌≡◌, Bool, ◌⊎◌, ℕ, ◌+◌, ◌<◌}
 use Rattle.rules.specs.declared.statements.Statement.{Statement}
-use Rattle.rules.specs.declared.statements.Statement.TheVariants.{Member, Related, Empty, Universal, Only, Nominal, Subclass, Both, Reaches, Requires, SelfWithin, SelfPaired, Subrole, Chain, RoleBoth, Product, DomainRange}
+use Rattle.rules.specs.declared.statements.Statement.TheVariants.{Empty}
 use Rattle.calculus.specs.Terms.{first_at, second_at, ground_of, by_rule}
 use Rattle.calculus.specs.declared.terms.First.TheVariants as first
 use Rattle.calculus.specs.declared.terms.Second.TheVariants as second
 use Rattle.calculus.specs.declared.terms.Ground.{Ground}
 use Rattle.calculus.specs.declared.terms.Fact.{Fact}
 use Rattle.calculus.specs.declared.terms.Fact.TheVariants.{Instance, SelfPair, Pair}
-use Rattle.linetable.specs.Table.{key, lines}
+use Rattle.linetable.specs.Table.{key, lines, in_four}
 use Rattle.grounds.specs.Given.{Held, SaidGives}
 
 -- 1: f is I(x,x).
@@ -58,22 +58,6 @@ ByRule4 n k r p A held (Pair x v y) w = ⊥
 abbrev pub Unplaced : (n k r : ℕ) → (ℕ → Bool) → Fact → Ground → Type 0
 Unplaced n k r held f w = ByRule1 n f w ⊎ (ByRule2 n k r held f w ⊎ (ByRule27 n k r held f w ⊎ (ByRule28 n k r held f w ⊎ ByRule29 n k r held f w)))
 
--- The statement at the place p gives the fact: one of form c by rule 4, any other by one of its lines.
+-- The statement at the place p gives the fact: by one of its lines, or, if it is of form c, by rule 4.
 abbrev pub Placed : (n k r p : ℕ) → Statement → (ℕ → Bool) → Fact → Ground → Type 0
-Placed n k r p (Member x C) held f w = SaidGives n k r held f w (key (Member x C)) p (lines p (Member x C))
-Placed n k r p (Related x R y) held f w = SaidGives n k r held f w (key (Related x R y)) p (lines p (Related x R y))
-Placed n k r p (Empty A) held f w = ByRule4 n k r p A held f w
-Placed n k r p (Universal C) held f w = SaidGives n k r held f w (key (Universal C)) p (lines p (Universal C))
-Placed n k r p (Only A x) held f w = SaidGives n k r held f w (key (Only A x)) p (lines p (Only A x))
-Placed n k r p (Nominal x C) held f w = SaidGives n k r held f w (key (Nominal x C)) p (lines p (Nominal x C))
-Placed n k r p (Subclass A C) held f w = SaidGives n k r held f w (key (Subclass A C)) p (lines p (Subclass A C))
-Placed n k r p (Both A B C) held f w = SaidGives n k r held f w (key (Both A B C)) p (lines p (Both A B C))
-Placed n k r p (Reaches R A C) held f w = SaidGives n k r held f w (key (Reaches R A C)) p (lines p (Reaches R A C))
-Placed n k r p (Requires A R B) held f w = SaidGives n k r held f w (key (Requires A R B)) p (lines p (Requires A R B))
-Placed n k r p (SelfWithin R C) held f w = SaidGives n k r held f w (key (SelfWithin R C)) p (lines p (SelfWithin R C))
-Placed n k r p (SelfPaired A R) held f w = SaidGives n k r held f w (key (SelfPaired A R)) p (lines p (SelfPaired A R))
-Placed n k r p (Subrole R Q) held f w = SaidGives n k r held f w (key (Subrole R Q)) p (lines p (Subrole R Q))
-Placed n k r p (Chain R S Q) held f w = SaidGives n k r held f w (key (Chain R S Q)) p (lines p (Chain R S Q))
-Placed n k r p (RoleBoth R S Q) held f w = SaidGives n k r held f w (key (RoleBoth R S Q)) p (lines p (RoleBoth R S Q))
-Placed n k r p (Product A B R) held f w = SaidGives n k r held f w (key (Product A B R)) p (lines p (Product A B R))
-Placed n k r p (DomainRange R C D) held f w = SaidGives n k r held f w (key (DomainRange R C D)) p (lines p (DomainRange R C D))
+Placed n k r p s held f w = SaidGives n k r held f w (key s) p (in_four (lines p s)) ⊎ ((A : ℕ) × (s ≡ Empty A) × ByRule4 n k r p A held f w)

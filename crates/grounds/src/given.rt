@@ -1,110 +1,103 @@
-// From a fact and a ground back to the given of a line.
-ghost use Rattle.std.specs.Prelude.{◌≡◌, ◌||◌};
-ghost use Rattle.calculus.specs.Terms.{by_rule};
+// A question, and the way from its fact and ground back to the given of a line.
+ghost use Rattle.std.specs.Prelude.{◌≡◌, ◌+◌};
+ghost use Rattle.calculus.specs.Terms.{first_at, by_rule};
 ghost use Rattle.calculus.specs.Tests.{Decides};
-ghost use Rattle.calculus.specs.Numbers.{Inside};
 ghost use Rattle.linetable.specs.Table.{witness};
 ghost use Rattle.grounds.specs.Given.{Held, start_told, finish_told, given_of};
 
 use calculus::numbers::number_of;
 use calculus::term::Term;
 use calculus::terms::{Fact, First, Ground, Second};
-use linetable::shapes::{Key, Told};
+use linetable::shapes::{Key, Line, Told};
 use linetable::table::{finish_of, start_of};
 use marks::store::MarkStore;
 use rules::counts::Counts;
 
-fn start_told(counts: Counts, told: Told, f: Fact, u: u16) -> First
-    ensures { result ≡ start_told counts.individuals told f u }
-{
-    match told {
-        Told::Untold => start_of(f),
-        Told::TellStart => First::at(counts, u),
-        Told::TellFinish => start_of(f),
-        Told::TellSecond => start_of(f),
-    }
+/// The question whether a ground gives a fact from the facts that a store holds.
+#[derive_where(Clone, Copy)]
+pub(crate) struct Question<'a, S: MarkStore> {
+    pub counts: Counts,
+    pub store: &'a S,
+    pub fact: Fact,
+    pub ground: Ground,
 }
 
-fn finish_told(counts: Counts, told: Told, f: Fact, u: u16) -> First
-    ensures { result ≡ finish_told counts.individuals told f u }
-{
-    match told {
-        Told::Untold => finish_of(f),
-        Told::TellStart => finish_of(f),
-        Told::TellFinish => First::at(counts, u),
-        Told::TellSecond => finish_of(f),
+impl<'a, S: MarkStore> Question<'a, S> {
+    // Whether a fact is inside the book and held.
+    pub(crate) fn is_held(&self, f: Fact) -> bool
+        ensures { Decides result (Held self.now.counts.individuals self.now.counts.classes self.now.counts.roles (S.MarkStore.held self.now.store.now) f) }
+    {
+        number_of(self.counts, f).is_some_and(|number| self.store.has(number))
     }
-}
 
-// The given from which a line with that key leads to a fact, the witness u being told.
-pub(crate) fn given_of(counts: Counts, on: Key, pair: bool, told: Told, f: Fact, u: u16) -> Fact
-    ensures { result ≡ given_of counts.individuals on pair told f u }
-{
-    match on {
-        Key::Never => f,
-        Key::Anyone => Fact::Instance(start_told(counts, told, f, u), Second::at(counts, u)),
-        Key::Of(c) => Fact::Instance(start_told(counts, told, f, u), c),
-        Key::Role(r) => {
-            if pair {
-                Fact::Pair(
-                    start_told(counts, told, f, u),
-                    r,
-                    finish_told(counts, told, f, u),
-                )
-            } else {
-                Fact::SelfPair(start_told(counts, told, f, u), r)
-            }
+    // Whether the ground is that of a rule without a statement.
+    pub(crate) fn is_by_rule(&self, rule: u16, u: u16) -> bool
+        ensures { Decides result (self.now.ground ≡ by_rule rule u) }
+    {
+        let of_rule = Ground {
+            rule,
+            place: 0,
+            u,
+            w: 0,
+        };
+        self.ground == of_rule
+    }
+
+    // Whether the ground has the statement at a place.
+    pub(crate) fn is_at(&self, p: u16) -> bool
+        ensures { Decides result (self.now.ground.place ≡ p + 1) }
+    {
+        self.ground.place.checked_sub(1) == Some(p)
+    }
+
+    // The first term that the ground tells as the witness u.
+    pub(crate) fn first_told(&self) -> First
+        ensures { result ≡ first_at self.now.counts.individuals self.now.ground.u }
+    {
+        First::at(self.counts, self.ground.u)
+    }
+
+    fn start_told(&self, told: Told) -> First
+        ensures { result ≡ start_told self.now.counts.individuals told self.now.fact self.now.ground.u }
+    {
+        match told {
+            Told::TellStart => self.first_told(),
+            _ => start_of(self.fact),
         }
     }
-}
 
-// The number that a line tells of its given.
-pub(crate) fn told_number(counts: Counts, told: Told, g: Fact) -> u64
-    ensures { result ≡ witness counts.individuals told g }
-{
-    match told {
-        Told::Untold => 0,
-        Told::TellStart => start_of(g).number(counts),
-        Told::TellFinish => finish_of(g).number(counts),
-        Told::TellSecond => match g {
-            Fact::Instance(_, y) => y.number(counts),
-            Fact::SelfPair(_, _) => 0,
-            Fact::Pair(_, _, _) => 0,
-        },
+    fn finish_told(&self, told: Told) -> First
+        ensures { result ≡ finish_told self.now.counts.individuals told self.now.fact self.now.ground.u }
+    {
+        match told {
+            Told::TellFinish => self.first_told(),
+            _ => finish_of(self.fact),
+        }
     }
-}
 
-// Whether a fact is inside the book and held.
-pub(crate) fn is_held<S: MarkStore>(counts: Counts, store: &S, f: Fact) -> bool
-    ensures { Decides result (Held counts.individuals counts.classes counts.roles (S.MarkStore.held store.now) f) }
-{
-    match number_of(counts, f) {
-        Some(number) => store.has(number),
-        None => false,
+    // The given from which a line with that key leads to the fact.
+    pub(crate) fn given_of(&self, on: Key, line: Line) -> Fact
+        ensures { result ≡ given_of self.now.counts.individuals on line.pair line.told self.now.fact self.now.ground.u }
+    {
+        let start = self.start_told(line.told);
+        match on {
+            Key::Never => self.fact,
+            Key::Anyone => Fact::Instance(start, Second::at(self.counts, self.ground.u)),
+            Key::Of(c) => Fact::Instance(start, c),
+            Key::Role(r) if line.pair => Fact::Pair(start, r, self.finish_told(line.told)),
+            Key::Role(r) => Fact::SelfPair(start, r),
+        }
     }
-}
 
-// Whether two facts are the same, and inside the book.
-pub(crate) fn is_same_fact(counts: Counts, a: Fact, b: Fact) -> bool
-    ensures { Decides result (Inside counts.individuals counts.classes counts.roles b × (a ≡ b)) }
-{
-    let Some(first) = number_of(counts, a) else {
-        return false;
-    };
-    let Some(second) = number_of(counts, b) else {
-        return false;
-    };
-    first == second
-}
-
-pub(crate) fn is_by_rule(w: Ground, rule: u16, u: u16) -> bool
-    ensures { Decides result (w ≡ by_rule rule u) }
-{
-    w.rule == rule && w.place == 0 && w.u == u && w.w == 0
-}
-
-pub(crate) fn either(a: bool, b: bool) -> bool
-    ensures { result ≡ a || b }
-{
-    a || b
+    // The number that a line tells of its given.
+    pub(crate) fn told_number(&self, told: Told, g: Fact) -> u64
+        ensures { result ≡ witness self.now.counts.individuals told g }
+    {
+        match (told, g) {
+            (Told::TellStart, _) => start_of(g).number(self.counts),
+            (Told::TellFinish, _) => finish_of(g).number(self.counts),
+            (Told::TellSecond, Fact::Instance(_, y)) => y.number(self.counts),
+            _ => 0,
+        }
+    }
 }
