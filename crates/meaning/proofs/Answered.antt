@@ -52,7 +52,7 @@ module _ (n k r : ℕ) (ss : List Statement) (marked : Fact → Bool) (finished 
 
   -- In a clash everything is marked.
   clash_all : (x C : ℕ) → x < n → C < k → Clash ss marked → T (marked (is_in x C))
-  clash_all x C l m c = finished.done.closed.step (by (rule_4 c.empty m)) (c.found, (finished.done.closed.step (by (rule_1 l)) tt, tt))
+  clash_all x C l m c = finished.done.closed.leads _ _ (by (rule_4 c.empty m)) (c.found, (finished.done.closed.leads _ _ (by (rule_1 l)) tt, tt))
 
   yes_all : (x C : ℕ) → x < n → T (marked (is_in x C)) → Always n ss x C
   yes_all x C l h I sat = (soundness n k r ss finished.proper (is_in x C) (finished.done.treed _ h) I sat).1 (I.individual x) (l, refl)

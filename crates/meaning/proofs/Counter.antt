@@ -235,7 +235,7 @@ module _ (n : ℕ) (ss : List Statement) (told : Told ss) (marked : Fact → Boo
 
   module _ (k r : ℕ) (proper : Proper n k r ss) (closed : Closed (Follows n k ss) (λ f. T (marked f))) (clashless : ¬ Clash ss marked) where
     close : {why : Ground} {fs : List Fact} {f : Fact} → Step n k ss why fs f → All (λ g. T (marked g)) fs → Marked f
-    close s h = closed.step (by s) h
+    close s h = closed.leads _ _ (by s) h
 
     its_own : (x : ℕ) → x < n → Marked (Instance (first.Individual x) (second.Individual x))
     its_own x l = close (rule_1 l) tt

@@ -181,7 +181,7 @@ module _ {n : ℕ} (k r : ℕ) (ss : List Statement) (I : Interpretation n) wher
     preserve_follows (by s) h = preserve s h
 
 pub soundness : Soundness
-soundness n k r ss proper f t I sat = means_says k r ss I f (fold (record { step = preserve_follows k r ss I proper.well_formed proper.admissible sat }) t)
+soundness n k r ss proper f t I sat = means_says k r ss I f (fold (record { leads = λ fs f s h. preserve_follows k r ss I proper.well_formed proper.admissible sat s h }) t)
 
 -- The class of a form-c statement has no member in any satisfying interpretation.
 pub clash_refuted : (n k r : ℕ) (ss : List Statement) → Proper n k r ss → (I : Interpretation n) → SatisfiesAll I ss → {p A : ℕ} (u : First) → At ss p (Empty A) → ¬ HasTree n k ss (Instance u (second.Class A))
