@@ -99,7 +99,7 @@ fn run<F: FnOnce(&BookRules) -> Option<Marked>>(
     requires { F.IsAlwaysCallable mark_in }
 {
     let all = statements(rt.alloc(), plan)?;
-    let Ok(counts) = RuleBase::check(
+    let Ok(base) = RuleBase::check(
         plan.individuals as usize,
         plan.classes as usize,
         plan.roles as usize,
@@ -108,7 +108,7 @@ fn run<F: FnOnce(&BookRules) -> Option<Marked>>(
         println!(rt; "no such book")?;
         return Ok(());
     };
-    let rules = BookRules::over(RuleBase::new(counts, &all));
+    let rules = BookRules::over(base);
     let start = Instant::now(rt)?;
     let marked = mark_in(&rules);
     let micros = start.elapsed(rt)?.as_micros();

@@ -45,7 +45,7 @@ fn show(rt: &HostRuntime, title: &str, statements: &[Statement]) -> io::Result<(
             "{title}: refused, statement {}, field {}",
             refusal.place, refusal.item
         ),
-        Ok(counts) => match first_breaking(&RuleBase::new(counts, statements)) {
+        Ok(base) => match first_breaking(&base) {
             None => println!(rt; "{title}: admissible"),
             Some(place) => println!(rt; "{title}: statement {place} breaks its condition"),
         },

@@ -10,24 +10,24 @@ use crate::refusals::{Reason, Refusal};
 use crate::statements::Statement;
 
 impl<'a> RuleBase<'a> {
-    /// The counts of a base with these counts and statements, or a refusal: of a count that leaves its limits, or else of
-    /// the first wrong field.
+    /// The base with these counts and statements, or a refusal: of a count that leaves its limits, or else of the first
+    /// wrong field.
+    #[tactic(auto, using(crate::specs::Formed::unrefused_fit), unfolding(crate::specs::Fits::base_refusal))]
     pub fn check(
         individuals: usize,
         classes: usize,
         roles: usize,
-        statements: &[Statement],
-    ) -> Result<Counts, Refusal>
-        ensures { MatchResult result (λ c. (base_refusal individuals classes roles statements.now ≡ None) × (c.individuals ≡ individuals) × (c.classes ≡ classes) × (c.roles ≡ roles) × (c.statements ≡ length statements.now)) (λ e. base_refusal individuals classes roles statements.now ≡ Some e) }
+        statements: &'a [Statement],
+    ) -> Result<RuleBase<'a>, Refusal>
+        ensures { MatchResult result (λ b. (base_refusal individuals classes roles statements.now ≡ None) × (b.counts.individuals ≡ individuals) × (b.counts.classes ≡ classes) × (b.counts.roles ≡ roles) × (b.statements.now ≡ statements.now)) (λ e. base_refusal individuals classes roles statements.now ≡ Some e) }
     {
         let counts = Counts::new(individuals, classes, roles, statements.len())?;
-        match first_wrong(counts, statements) {
-            Some(refusal) => Err(refusal),
-            None => Ok(counts),
-        }
+        check_fields(counts, statements)?;
+        Ok(RuleBase { counts, statements })
     }
 
-    /// The base with these counts and statements, where `check` gives them; with no statements where they do not fit together.
+    /// The base with these counts and statements, where they fit together; with no statements where they do not.
+    #[tactic(auto, unfolding(crate::specs::Fits::pass))]
     pub fn new(counts: Counts, statements: &'a [Statement]) -> RuleBase<'a>
         ensures individuals { result.counts.individuals ≡ counts.individuals }
         ensures classes { result.counts.classes ≡ counts.classes }
@@ -35,8 +35,10 @@ impl<'a> RuleBase<'a> {
         ensures statements { result.statements.now ≡ if_passed (pass counts.individuals counts.classes counts.roles counts.statements statements.now) statements.now }
     {
         if !passes(counts, statements) {
+            let mut without = counts;
+            without.statements = 0;
             return RuleBase {
-                counts: without_statements(counts),
+                counts: without,
                 statements: &[],
             };
         }
@@ -45,41 +47,26 @@ impl<'a> RuleBase<'a> {
 }
 
 // Whether the statements are as many as the counts say, and all well formed.
+#[tactic(auto, using(crate::specs::Formed::unrefused_fit, crate::specs::Formed::fit_unrefused), unfolding(crate::specs::Fits::pass))]
 fn passes(counts: Counts, statements: &[Statement]) -> bool
     ensures { result ≡ pass counts.individuals counts.classes counts.roles counts.statements statements.now }
 {
-    if counts.statements as usize != statements.len() {
-        return false;
-    }
-    first_wrong(counts, statements).is_none()
+    counts.statements as usize == statements.len() && check_fields(counts, statements).is_ok()
 }
 
-fn without_statements(counts: Counts) -> Counts
-    ensures individuals { result.individuals ≡ counts.individuals }
-    ensures classes { result.classes ≡ counts.classes }
-    ensures roles { result.roles ≡ counts.roles }
-    ensures statements { result.statements ≡ 0 }
-{
-    Counts {
-        individuals: counts.individuals,
-        classes: counts.classes,
-        roles: counts.roles,
-        statements: 0,
-    }
-}
-
-// The refusal of the first statement with a wrong field.
-fn first_wrong(counts: Counts, statements: &[Statement]) -> Option<Refusal>
-    ensures { result ≡ statements_refusal counts.individuals counts.classes counts.roles 0 statements.now }
+// Refuses the first statement with a wrong field.
+fn check_fields(counts: Counts, statements: &[Statement]) -> Result<(), Refusal>
+    ensures { MatchResult result (λ _. statements_refusal counts.individuals counts.classes counts.roles 0 statements.now ≡ None) (λ e. statements_refusal counts.individuals counts.classes counts.roles 0 statements.now ≡ Some e) }
 {
     for (place, statement) in statements.iter().enumerate() {
         if let Some(item) = wrong_in(counts, *statement) {
-            return Some(Reason::WrongField.at(place, item));
+            return Err(Reason::WrongField.at(place, item));
         }
     }
-    None
+    Ok(())
 }
 
+#[tactic(auto, unfolding(crate::specs::Fits::wrong_in))]
 fn wrong_in(counts: Counts, statement: Statement) -> Option<usize>
     ensures { result ≡ wrong_in counts.individuals counts.classes counts.roles statement }
 {

@@ -1,43 +1,12 @@
-use Rattle.std.proofs.Common.{◌≡◌, ℕ, List, map, length, Some, None, Ok, Err, Option, Result, sym, refl, ap, ◌∙◌, subst, arith}
+use Rattle.std.proofs.Common.{◌≡◌, ℕ, List, length, Ok, Err, Result, sym, refl, ap, ◌∙◌, subst, arith}
 use native.Mathlib.Decide.{dec_lt}
-use lib.ListN.{length-map}
-use Rattle.rules.specs.Fits.{base_refusal, if_passed, pass}
-use Rattle.rules.specs.Formed.{Accepted, accepted_unrefused, accepted_kept}
 use Rattle.rules.specs.declared.refusals.Refusal.{Refusal}
-use Rattle.rules.specs.declared.statements.Statement.{Statement}
-use Rattle.reader.specs.declared.reader.Word.{Word}
 use Rattle.ruletext.specs.Outcome.{Contents, nothing, by_text}
-use Rattle.ruletext.specs.Reading.{spelt}
 use Rattle.ruletext.specs.Verdicts.{Judged, Told, verdict, left_by}
 use Rattle.ruletext.specs.declared.verdict.Verdict.TheVariants as v
 use Rattle.ruletext.proofs.Accepted.{orderly}
 use Rattle.ruletext.proofs.Fitted.{text_fits}
-use Rattle.survey.specs.Facts.{FactsCounted}
 use Rattle.survey.specs.Surveys.{Fitting}
-
-pub long : (ws : List Word) (n m : ℕ) → n ≡ m → m ≡ length ws → n ≡ length (map spelt ws)
-long ws n m e h = e ∙ h ∙ sym (length-map ws spelt)
-
--- Counts and statements of the base are those that were read.
-module _ (n k r : ℕ) (ss us : List Statement) (ue : us ≡ ss) (n1 k1 r1 : ℕ) (n1e : n1 ≡ n) (k1e : k1 ≡ k) (r1e : r1 ≡ r) where
-  pub not_refused : Accepted n k r ss → (e : Refusal) → base_refusal n1 k1 r1 us ≡ Some e → ⊥
-  not_refused a e h =
-      let g : base_refusal n k r ss ≡ Some e = rw (sym n1e, sym k1e, sym r1e, sym ue) h in
-      let z : ◌≡◌ {A = ℕ} 0 1 = cc (accepted_unrefused n k r ss a, g) in
-      omega arith
-
-  pub from_counts : base_refusal n1 k1 r1 us ≡ None → (n2 k2 r2 m : ℕ) → n2 ≡ n1 → k2 ≡ k1 → r2 ≡ r1 → m ≡ length us
-      → (n3 k3 r3 : ℕ) (ts : List Statement) → n3 ≡ n2 → k3 ≡ k2 → r3 ≡ r2 → ts ≡ if_passed (pass n2 k2 r2 m us) us
-      → (before slots : List (Option ℕ)) (o : Option ℕ) → FactsCounted n3 k3 r3 ts before slots o → FactsCounted n k r ss before slots o
-  from_counts h n2 k2 r2 m n2e k2e r2e me n3 k3 r3 ts n3e k3e r3e te before slots o f =
-      let same : ts ≡ ss = te ∙ accepted_kept n1 k1 r1 n2 k2 r2 m us h n2e k2e r2e me ∙ ue in
-      let a : n3 ≡ n = n3e ∙ n2e ∙ n1e in
-      let b : k3 ≡ k = k3e ∙ k2e ∙ k1e in
-      let d : r3 ≡ r = r3e ∙ r2e ∙ r1e in
-      subst (λ (x : ℕ). FactsCounted x k r ss before slots o) a
-      (subst (λ (x : ℕ). FactsCounted n3 x r ss before slots o) b
-      (subst (λ (x : ℕ). FactsCounted n3 k3 x ss before slots o) d
-      (subst (λ (xs : List Statement). FactsCounted n3 k3 r3 xs before slots o) same f)))
 
 -- What a verdict says of the outcome.
 record ReadAs (o : Result Contents Refusal) (i c r n : ℕ) : Type 0 where

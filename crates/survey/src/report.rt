@@ -38,7 +38,7 @@ fn facts_of(rules: &Rules<'_>, slots: &mut [Option<u64>]) -> Option<u64>
         rules.roles.len(),
         statements,
     ) {
-        Ok(counts) => count_facts(&RuleBase::new(counts, statements), slots),
+        Ok(base) => count_facts(&base, slots),
         Err(_) => None,
     }
 }

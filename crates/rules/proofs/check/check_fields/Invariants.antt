@@ -1,6 +1,6 @@
 use Rattle.std.proofs.Common.{◌≡◌, drop}
 use Rattle.rules.specs.Fits.{statements_refusal}
-use Rattle.rules.proofs.check.first_wrong.Given as goal
+use Rattle.rules.proofs.check.check_fields.Given as goal
 
 abbrev pub invariant-loop-place : goal.invariant-loop-place
 invariant-loop-place l =
