@@ -11,15 +11,16 @@ use std::alloc::{AllocError, Global};
 use std::time::Instant;
 use wordtable::WordTable;
 
+// One more than the longest chain's last number: the bound of the edges, and the limit of both tables.
+const BOUND: u64 = 200001;
+
 fn chain(heap: Global, n: u64) -> Result<Vec<Edge>, AllocError> {
-    let mut edges = Vec::new(heap);
-    for from in 0..n {
-        edges.push(Edge {
+    (0..n)
+        .map(|from| Edge {
             from,
             to: from.wrapping_add(1),
-        })?;
-    }
-    Ok(edges)
+        })
+        .collect(heap)
 }
 
 // Marks the whole chain in a store, and shows how many numbers it has and how long it took.
@@ -52,15 +53,15 @@ fn trial(
     let graph = Graph {
         edges: &edges,
         start: 0,
-        bound: 200001,
+        bound: BOUND,
     };
     let mut table = WordTable::over(words);
-    match table.set_up(200001) {
+    match table.set_up(BOUND) {
         Ok(()) => timed(rt, "words", &graph, &mut table)?,
         Err(_) => println!(rt; "words: too few")?,
     }
     let mut table = SlotTable::over(slots);
-    table.set_up(200001);
+    table.set_up(BOUND);
     timed(rt, "slots", &graph, &mut table)
 }
 
