@@ -1,22 +1,24 @@
 -- Statements copied one by one.
-use Rattle.std.proofs.Common.{◌≡◌, ℕ, ◌+◌, ◌<◌, ◌≤◌, List, [], ◌∷◌, ◌++◌, length, get_or, take, drop, set, Some, None, sym, ap, ◌∙◌, append_assoc, arith, length-drop, length-take}
-use Rattle.std.proofs.lemmas.List.{take_more, drop_more, drop-drop, get_or-drop, set_at}
+use Rattle.std.proofs.Common.{◌≡◌, ℕ, ◌+◌, ◌<◌, ◌≤◌, List, [], ◌∷◌, ◌++◌, map, length, get_or, take, drop, set, Some, None, sym, ap, ◌∙◌, append_assoc, arith, length-drop, length-take}
+use Rattle.std.proofs.lemmas.List.{take_more, drop_more, at_drop_more, drop-drop, get_or-drop, set_at}
 use Rattle.rules.specs.declared.statements.Statement.{Statement}
 use Rattle.headers.specs.declared.record.Record.{Record}
 use Rattle.headers.specs.Records.{record_in, stated, keep, stated_by}
-use Rattle.headers.specs.Header.{statements_in}
 use Rattle.headers.specs.Views.{Copied}
-use Rattle.headers.proofs.Pieces.{records_more, records_none}
 
-module _ (b after : List ℕ) (x : Record) (h : 8 ≤ length b) (p : x ≡ record_in (take 8 b)) (q : after ≡ drop 8 b) where
-  statements_more : statements_in b ≡ keep (stated x) (statements_in after)
-  statements_more = rw (p, q) (ap stated_by (records_more b h))
+-- the statements that pieces give
+abbrev pub given_by : List (List ℕ) → List Statement
+given_by xs = stated_by (map record_in xs)
 
-  pub given_none : None ≡ stated x → statements_in b ≡ statements_in after
-  given_none e = statements_more ∙ ap (λ o. keep o (statements_in after)) (sym e)
+module _ (xs : List (List ℕ)) (i : ℕ) (d : List ℕ) (x : Record) (l : i < length xs) (p : x ≡ record_in (get_or xs i d)) where
+  given_here : given_by (drop i xs) ≡ keep (stated x) (given_by (drop (i + 1) xs))
+  given_here = rw p (at_drop_more given_by xs i d l)
 
-  pub given_some : (s : Statement) → Some s ≡ stated x → statements_in b ≡ s ∷ statements_in after
-  given_some s e = statements_more ∙ ap (λ o. keep o (statements_in after)) (sym e)
+  pub given_none : None ≡ stated x → given_by (drop i xs) ≡ given_by (drop (i + 1) xs)
+  given_none e = given_here ∙ ap (λ o. keep o (given_by (drop (i + 1) xs))) (sym e)
+
+  pub given_some : (s : Statement) → Some s ≡ stated x → given_by (drop i xs) ≡ s ∷ given_by (drop (i + 1) xs)
+  given_some s e = given_here ∙ ap (λ o. keep o (given_by (drop (i + 1) xs))) (sym e)
 
 module _ (ss memory m rest : List Statement) (n : ℕ) (s : Statement) (e : drop n ss ≡ s ∷ rest) (l : n ≤ length ss) (h : n ≤ length memory) (i : m ≡ take n ss ++ drop n memory) where
   longer : n < length ss
@@ -40,7 +42,7 @@ module _ (ss memory m rest : List Statement) (n : ℕ) (s : Statement) (e : drop
       ∙ (sym (append_assoc (take n ss) (s ∷ []) (drop (n + 1) memory))
       ∙ ap (λ (v : List Statement). v ++ drop (n + 1) memory) (ap (λ (y : Statement). take n ss ++ (y ∷ [])) (sym here) ∙ sym (take_more ss n s longer))))
 
-pub ended : (b : List ℕ) (ss before after : List Statement) (n : ℕ) → length b < 8 → drop n ss ≡ statements_in b → n ≤ length ss → n ≤ length before → after ≡ take n ss ++ drop n before → Copied before after ss n
-ended b ss before after n s d l h i =
-    let z : length (drop n ss) ≡ 0 = ap length d ∙ ap (λ xs. length (stated_by xs)) (records_none b s) in
+pub ended : (ss before after : List Statement) (n : ℕ) → drop n ss ≡ [] → n ≤ length ss → n ≤ length before → after ≡ take n ss ++ drop n before → Copied before after ss n
+ended ss before after n d l h i =
+    let z : length (drop n ss) ≡ 0 = ap length d in
     record { some = l; room = h; most = λ y. absurd (omega (arith, y, z, length-drop n ss)); statements = i }

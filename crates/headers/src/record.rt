@@ -1,7 +1,6 @@
 // The record of a statement: eight bytes.
-ghost use Rattle.std.specs.Prelude.{◌≡◌, ℕ, ◌+◌, ◌*◌, ◌<◌, ◌≤◌, ◌&&◌, length, take, drop, MatchOption, ◌==◌};
-ghost use Rattle.headers.specs.Bytes.{at};
-ghost use Rattle.headers.specs.Records.{known_letter, record_in, stated, wrong_in_record};
+ghost use Rattle.std.specs.Prelude.{◌≡◌};
+ghost use Rattle.headers.specs.Records.{known_letter, is_record, record_in, stated, wrong_in_record};
 
 use rules::counts::Counts;
 use rules::fields::wrong_field;
@@ -16,30 +15,26 @@ pub struct Record {
     pub fields: Three<u16>,
 }
 
-// The first record, its second byte apart, and the bytes after it.
-pub(crate) fn cut_record(bytes: &[u8]) -> Option<(u8, Record, &[u8])>
-    ensures { MatchOption result (length bytes.now < 8) (λ p. (8 ≤ length bytes.now) × (p.0 ≡ at (take 8 bytes.now) 1) × (p.1 ≡ record_in (take 8 bytes.now)) × (p.2.now ≡ drop 8 bytes.now)) }
+// The letter and the fields that eight bytes give.
+pub(crate) fn record_in(bytes: [u8; 8]) -> Record
+    ensures { result ≡ record_in bytes }
 {
-    let [letter, zero, a1, a0, b1, b0, c1, c0, rest @ ..] = bytes else {
-        return None;
-    };
-    let first = u16::from_be_bytes([*a1, *a0]);
-    let second = u16::from_be_bytes([*b1, *b0]);
-    let third = u16::from_be_bytes([*c1, *c0]);
-    Some((
-        *zero,
-        Record {
-            letter: *letter,
-            fields: Three::new(first, second, third),
-        },
-        rest,
-    ))
+    let [letter, _, a1, a0, b1, b0, c1, c0] = bytes;
+    let first = u16::from_be_bytes([a1, a0]);
+    let second = u16::from_be_bytes([b1, b0]);
+    let third = u16::from_be_bytes([c1, c0]);
+    Record {
+        letter,
+        fields: Three::new(first, second, third),
+    }
 }
 
-// Whether a record has a form's letter and a zero byte.
-pub(crate) fn is_right(letter: u8, zero: u8) -> bool
-    ensures { result ≡ (known_letter letter && zero == 0) }
+// Whether eight bytes are a record: a form's letter and a zero byte.
+pub(crate) fn is_record(bytes: [u8; 8]) -> bool
+    ensures { result ≡ is_record bytes }
 {
+    let letter = bytes[0];
+    let zero = bytes[1];
     is_known(letter) && zero == 0
 }
 

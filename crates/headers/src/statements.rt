@@ -4,7 +4,7 @@ ghost use Rattle.headers.specs.Header.{are_records, records_in, statements_in};
 ghost use Rattle.headers.specs.Records.{records_refusal};
 ghost use Rattle.headers.specs.Views.{Copied};
 
-use crate::record::{cut_record, is_right};
+use crate::record::{is_record, record_in};
 use rules::counts::Counts;
 use rules::refusals::{Reason, Refusal};
 use rules::statements::Statement;
@@ -13,28 +13,24 @@ use rules::statements::Statement;
 pub(crate) fn are_records(part: &[u8]) -> bool
     ensures { result ≡ are_records part.now }
 {
-    let mut rest = part;
-    while let Some((zero, record, after)) = cut_record(rest) {
-        if !is_right(record.letter, zero) {
+    let (records, rest) = part.as_chunks::<8>();
+    for bytes in records {
+        if !is_record(*bytes) {
             return false;
         }
-        rest = after;
     }
-    rest.len() == 0
+    rest.is_empty()
 }
 
 // The first record with a wrong field is refused.
 pub(crate) fn check_fields(counts: Counts, part: &[u8]) -> Result<(), Refusal>
     ensures { MatchResult result (λ _. records_refusal counts.individuals counts.classes counts.roles 0 (records_in part.now) ≡ None) (λ e. records_refusal counts.individuals counts.classes counts.roles 0 (records_in part.now) ≡ Some e) }
 {
-    let mut rest = part;
-    let mut place = 0;
-    while let Some((_, record, after)) = cut_record(rest) {
-        if let Some(item) = record.wrong(counts) {
+    let (records, _) = part.as_chunks::<8>();
+    for (place, bytes) in records.iter().enumerate() {
+        if let Some(item) = record_in(*bytes).wrong(counts) {
             return Err(Reason::WrongField.at(place, item));
         }
-        rest = after;
-        place += 1;
     }
     Ok(())
 }
@@ -43,17 +39,16 @@ pub(crate) fn check_fields(counts: Counts, part: &[u8]) -> Result<(), Refusal>
 pub(crate) fn copy_statements(part: &[u8], memory: &mut [Statement]) -> usize
     ensures { Copied memory.old memory.new (statements_in part.now) result }
 {
-    let mut rest = part;
+    let (records, _) = part.as_chunks::<8>();
     let mut count = 0;
-    while let Some((_, record, after)) = cut_record(rest) {
-        if let Some(statement) = record.statement() {
+    for bytes in records {
+        if let Some(statement) = record_in(*bytes).statement() {
             if count == memory.len() {
                 return count;
             }
             memory[count] = statement;
             count += 1;
         }
-        rest = after;
     }
     count
 }

@@ -1,9 +1,7 @@
-use Rattle.std.proofs.Common.{◌≡◌, length}
-use Rattle.headers.specs.Header.{are_records}
+use Rattle.std.proofs.Common.{◌≡◌, drop}
+use Rattle.headers.specs.Bytes.{all}
+use Rattle.headers.specs.Records.{is_record}
 use Rattle.headers.proofs.statements.are_records.Given as goal
 
-abbrev pub invariant-loop-zero : goal.invariant-loop-zero
-invariant-loop-zero l = are_records l.part ≡ are_records l.rest
-
-abbrev pub decreases-loop-zero : goal.decreases-loop-zero
-decreases-loop-zero l = length l.rest
+abbrev pub invariant-loop-bytes : goal.invariant-loop-bytes
+invariant-loop-bytes l = all is_record l.records ≡ all is_record (drop l.bytes-index l.records)

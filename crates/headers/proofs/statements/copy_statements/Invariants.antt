@@ -1,13 +1,11 @@
 use Rattle.std.proofs.Common.{◌≡◌, ◌≤◌, ◌++◌, length, take, drop}
-use Rattle.headers.specs.Header.{statements_in}
+use Rattle.headers.proofs.Copying.{given_by}
 use Rattle.headers.proofs.statements.copy_statements.Given as goal
 
-abbrev pub invariant-loop-record : goal.invariant-loop-record
-invariant-loop-record l =
-    (drop l.count (statements_in l.part) ≡ statements_in l.rest)
-    × (l.count ≤ length (statements_in l.part))
+abbrev pub invariant-loop-bytes : goal.invariant-loop-bytes
+invariant-loop-bytes l =
+    let all = given_by l.records in
+    (drop l.count all ≡ given_by (drop l.bytes-index l.records))
+    × (l.count ≤ length all)
     × (l.count ≤ length l.initial.memory)
-    × (l.memory ≡ take l.count (statements_in l.part) ++ drop l.count l.initial.memory)
-
-abbrev pub decreases-loop-record : goal.decreases-loop-record
-decreases-loop-record l = length l.rest
+    × (l.memory ≡ take l.count all ++ drop l.count l.initial.memory)
