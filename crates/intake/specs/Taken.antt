@@ -1,15 +1,12 @@
 -- What the calls that take a header in tell of it.
-use Rattle.std.specs.Prelude.{◌≡◌, ℕ, ◌⊎◌, List, ◌++◌, length, drop, Some, None, Ok}
-use Rattle.rules.specs.Refusals.{refusal}
+use Rattle.std.specs.Prelude.{◌≡◌, ℕ, List, ◌++◌, length, drop, None, Ok}
 use Rattle.rules.specs.declared.counts.Counts.{Counts}
-use Rattle.rules.specs.declared.refusals.Refusal.{Refusal}
-use Rattle.rules.specs.declared.refusals.Reason.TheVariants.{NotAdmissible}
 use Rattle.rules.specs.declared.statements.Statement.{Statement}
-use Rattle.roles.specs.Roles.{Admissible, FirstBreaking}
+use Rattle.roles.specs.Roles.{Admissible}
 use Rattle.headers.specs.declared.header.Header.{Header as View}
 use Rattle.headers.specs.Header.{Header, statements_in}
 use Rattle.headers.specs.Theorems.{Proper}
-use Rattle.headers.specs.Views.{Reads, Tallied, holding_of, judgement_of}
+use Rattle.headers.specs.Views.{Opened, Reads, Tallied, holding_of, judgement_of}
 use Rattle.intake.specs.Outcomes.{HeaderMeans}
 
 -- A header was accepted: its counts, and its statements at the front of a memory whose rest is as it was.
@@ -28,18 +25,13 @@ pub record Viewed (b : List ℕ) (h : View) : Type 0 where
   pub means : HeaderMeans b (Ok (holding_of h.parts))
   pub reads : Reads b h
 
--- An opened header passes: its counts and fields are right, its statements are admissible, and these are its counts.
-pub record Passes (h : View) (counts : Counts) : Type 0 where
+-- A view of a header in order by its format, and its counts.
+pub record FormedFrom (b : List ℕ) (h : View) (counts : Counts) : Type 0 where
+  pub opened : Opened b h
   pub judged : judgement_of h ≡ None
-  pub admissible : Admissible (statements_in h.parts.statements.now)
   pub tallied : Tallied h.tally counts
 
--- Its counts and fields are right, and a statement breaks its condition; the refusal tells the first such place.
-pub record Breaks (h : View) (e : Refusal) : Type 0 where
-  pub judged : judgement_of h ≡ None
-  pub first : FirstBreaking (statements_in h.parts.statements.now) e.place
-  pub is : e ≡ refusal NotAdmissible e.place 0
-
--- It fails by 8 or 7, or else by 9.
-abbrev pub Fails : View → Refusal → Type 0
-Fails h e = (judgement_of h ≡ Some e) ⊎ Breaks h e
+-- Its statements are admissible too.
+pub record Admitted (b : List ℕ) (h : View) (counts : Counts) : Type 0 where
+  pub formed : FormedFrom b h counts
+  pub admissible : Admissible (statements_in h.parts.statements.now)
