@@ -2,3 +2,4 @@ pub mod Reading
 pub mod Filling
 pub mod Verdicts
 pub mod Cutting
+pub mod Tested

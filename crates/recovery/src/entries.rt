@@ -8,6 +8,7 @@ use crate::entry::{Entry, cut_entry};
 use rules::refusals::{Reason, Refusal};
 
 /// What going over the entries answers: yes, or no with a place.
+// An enum of its own: as an Option it would say None for yes and Some for no.
 #[derive(Clone, Copy)]
 pub enum Verdict {
     Yes,
@@ -50,6 +51,7 @@ pub trait Judge {
 pub fn judge_entries<J: Judge>(judge: &mut J, part: &[u8]) -> Result<Verdict, Refusal>
     ensures { Gone J.Judge.good J.Judge.full J.Judge.whole J.Judge.lacks J.Judge.keeps J.Judge.alike (cut 14 part.now) 1 judge.old judge.new result }
 {
+    // over chunks of fourteen bytes a `for` would need an answer for a chunk that is no entry; `cut_entry` ends this loop
     let mut rest = part;
     let mut place = 1;
     while let Some(next) = cut_entry(rest) {
