@@ -2,6 +2,7 @@
 use Rattle.std.proofs.Common.{◌≡◌, ℕ, Bool, true, false, List, [], ◌∷◌, ◌++◌, map, sym, refl, ap, ◌∙◌, subst, inl, inr}
 use borrow.Author.Tests.{both_ways}
 use Rattle.std.proofs.lemmas.Bool.Decides.{eqb_tells}
+use Rattle.std.proofs.lemmas.List.{map-append}
 use Rattle.rules.specs.declared.statements.Statement.{Statement}
 use Rattle.marks.specs.Sets.{joined}
 use Rattle.marks.specs.SetLaws.{joined_here, joined_other}
@@ -36,10 +37,6 @@ from_map number [] i = elim i [ ]
 from_map number (x ∷ xs) here = record { it = x; among = here; numbered = refl }
 from_map number (x ∷ xs) (there i) = let f = from_map number xs i in record { it = f.it; among = there f.among; numbered = f.numbered }
 
-map_last : {X : Type 0} (number : X → ℕ) (xs : List X) (x : X) → map number (xs ++ (x ∷ [])) ≡ map number xs ++ (number x ∷ [])
-map_last number [] x = refl
-map_last number (y ∷ xs) x = ap (λ v. number y ∷ v) (map_last number xs x)
-
 pub holds_none : (n k r : ℕ) (held : ℕ → Bool) → ((x : ℕ) → held x ≡ false) → HoldsExactly n k r held []
 holds_none n k r held e x = (λ h. absurd (both_ways (held x) (e x) h), λ i. elim i [ ])
 
@@ -60,7 +57,7 @@ holds_more n k r held now facts f h is x =
       | inl same ↦ subst (λ y. In y (map number facts ++ (number f ∷ []))) (sym same.1) (in_last (map number facts) (number f))
       | inr other ↦ in_front (number f ∷ []) ((h x).0 (sym (is x ∙ joined_other held (number f) x other.1) ∙ t))
     ] in
-    (λ t. subst (In x) (sym (map_last number facts f)) (out t), λ i. back (subst (In x) (map_last number facts f) i))
+    (λ t. subst (In x) (sym (map-append number facts (f ∷ []))) (out t), λ i. back (subst (In x) (map-append number facts (f ∷ [])) i))
 
 -- an entry tells a fact that its ground does not give from held ones: no fact makes it good
 pub bad_ground : (n k r : ℕ) (ss : List Statement) (held : ℕ → Bool) (e : Entry) (f : Fact) (why : Ground) → Tells n k r e f why → ¬ GivesHeld n k r ss held why f → BadByHeld n k r ss held e

@@ -65,12 +65,6 @@ more_entries n k r ss fine es front e facts P next before m =
 
 -- ── the file and the store ──
 module _ (b : List ℕ) (n k r : ℕ) (ss : List Statement) (file : List ℕ) (F P : ℕ) (unchanged : Type 0) (held : ℕ → Bool) where
-  pub by_file : (o : Result Verdict Refusal) (d e : Refusal) → o ≡ Err d → d ≡ e → recovery_refusal file ≡ Some e → unchanged → Compared b n k r ss file F P unchanged held o
-  by_file o d e p q refused u = subst (Compared b n k r ss file F P unchanged held) (sym (p ∙ ap Err q)) (file_refused refused u)
-
-  pub by_limit : (e : Refusal) → e ≡ too_small → recovery_refusal file ≡ None → (L : ℕ) → L ≡ fact_limit n k r → F < L → unchanged → Compared b n k r ss file F P unchanged held (Err e)
-  by_limit e is right L l low u = subst (λ (d : Refusal). Compared b n k r ss file F P unchanged held (Err d)) (sym is) (limit_low right (omega (arith, l)) u)
-
   module _ (header entries : List ℕ) (parts : CutRecovery file header entries) (wide : fact_limit n k r ≤ F) where
     pub by_header : (header ≡ b → ⊥) → ((x : ℕ) → held x ≡ false) → Compared b n k r ss file F P unchanged held (Ok (No 0))
     by_header other clear = other_header parts.right wide (λ e. other (parts.header' ∙ e)) (holds_none n k r held clear)

@@ -1,5 +1,6 @@
 -- Match has no choice: two answers to the same bytes, with the same limit and capacity, are the same.
 use Rattle.std.proofs.Common.{◌≡◌, ℕ, ◌+◌, ◌≤◌, Bool, ◌⊎◌, List, [], ◌∷◌, ◌++◌, length, Some, None, Ok, Err, Option, Result, sym, refl, ap, ◌∙◌, subst, inl, inr, arith, length-append}
+use Rattle.std.proofs.lemmas.List.{append-nil}
 use Rattle.rules.specs.declared.refusals.Refusal.{Refusal}
 use Rattle.rules.specs.declared.statements.Statement.{Statement}
 use Rattle.marks.specs.Trees.{In}
@@ -52,15 +53,11 @@ record Stop (n k : ℕ) (ss : List Statement) (es : List (List ℕ)) (P : ℕ) (
   room : length facts ≤ P
   why : Why n k ss P facts (length front + 1) left o
 
-append-nil : {X : Type 0} (xs : List X) → xs ≡ xs ++ []
-append-nil [] = refl
-append-nil (x ∷ xs) = ap (λ v. x ∷ v) (append-nil xs)
-
 stop_of : (n k r : ℕ) (ss : List Statement) (es : List (List ℕ)) (P : ℕ) (held : ℕ → Bool) (o : Result Verdict Refusal) → WentOver n k r ss es P held o → Stop n k ss es P o
 stop_of n k r ss es P held o (bad_entry {front} {e} {facts} went next bad at) = record { front = front; left = e ∷ next.rest; facts = facts; split = next.is; good = went.good; room = went.room; why = at_bad bad at }
 stop_of n k r ss es P held o (no_room {front} {e} {facts} {f} went next good full) = record { front = front; left = e ∷ next.rest; facts = facts; split = next.is; good = went.good; room = went.room; why = at_full {f = f} good full }
-stop_of n k r ss es P held o (fact_missing {facts} went lacks at) = record { front = es; left = []; facts = facts; split = append-nil es; good = went.good; room = went.room; why = at_lack lacks at }
-stop_of n k r ss es P held o (all_there {facts} went every) = record { front = es; left = []; facts = facts; split = append-nil es; good = went.good; room = went.room; why = at_end every }
+stop_of n k r ss es P held o (fact_missing {facts} went lacks at) = record { front = es; left = []; facts = facts; split = sym (append-nil es); good = went.good; room = went.room; why = at_lack lacks at }
+stop_of n k r ss es P held o (all_there {facts} went every) = record { front = es; left = []; facts = facts; split = sym (append-nil es); good = went.good; room = went.room; why = at_end every }
 
 module _ (n k r : ℕ) (ss : List Statement) (fine : Fine n k r ss) (P : ℕ) where
   -- no other row of good entries goes on past a stop

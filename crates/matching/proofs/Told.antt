@@ -1,6 +1,5 @@
 -- What entries tell.
-use Rattle.std.proofs.Common.{◌≡◌, ℕ, Option, sym, refl, ap, ◌∙◌, arith, MatchOption}
-use Rattle.calculus.specs.Terms.{first_number, second_number}
+use Rattle.std.proofs.Common.{◌≡◌, ℕ, sym, refl, ap, ◌∙◌, arith}
 use Rattle.calculus.specs.Numbers.{Inside}
 use Rattle.calculus.specs.TermNumbers.{first_same, second_same}
 use Rattle.calculus.specs.declared.terms.First.{First}
@@ -8,10 +7,9 @@ use Rattle.calculus.specs.declared.terms.Second.{Second}
 use Rattle.calculus.specs.declared.terms.Ground.{Ground}
 use Rattle.calculus.specs.declared.terms.Fact.{Fact}
 use Rattle.calculus.specs.declared.terms.Fact.TheVariants.{Instance, SelfPair, Pair}
-use Rattle.recovery.specs.EntryCuts.{EntryFits}
 use Rattle.recovery.specs.declared.entry.Entry.{Entry}
 use Rattle.matching.specs.Complete.{entry_of}
-use Rattle.matching.specs.Entries.{ToldOnce, ground_in, made}
+use Rattle.matching.specs.Entries.{ToldOnce, ground_in}
 
 -- an entry's parts, one by one
 letters : (e d : Entry) → e ≡ d → e.letter ≡ d.letter
@@ -49,16 +47,3 @@ pub told_once : ToldOnce
 told_once n k r e f g why wherefore t s =
     let h : entry_of n f why ≡ entry_of n g wherefore = sym t.is ∙ s.is in
     (facts_same n k r f g why wherefore t.inside s.inside h, sym (told_ground n f why) ∙ ap ground_in h ∙ told_ground n g wherefore)
-
--- the entry of a fact, made of its numbers
-abbrev Made : Entry → Option Entry → Type 0
-Made d o = MatchOption o (¬ EntryFits d) (λ e. e ≡ d)
-
-pub made_instance : (n : ℕ) (x : First) (y : Second) (why : Ground) (a b : ℕ) (f : Fact) (o : Option Entry) → f ≡ Instance x y → a ≡ first_number n x → b ≡ second_number n y → Made (made 73 a 0 b why) o → Made (entry_of n f why) o
-made_instance n x y why a b f o e p q h = rw (e, sym p, sym q) h
-
-pub made_self_pair : (n : ℕ) (x : First) (v : ℕ) (why : Ground) (a : ℕ) (f : Fact) (o : Option Entry) → f ≡ SelfPair x v → a ≡ first_number n x → Made (made 83 a v 0 why) o → Made (entry_of n f why) o
-made_self_pair n x v why a f o e p h = rw (e, sym p) h
-
-pub made_pair : (n : ℕ) (x : First) (v : ℕ) (y : First) (why : Ground) (a b : ℕ) (f : Fact) (o : Option Entry) → f ≡ Pair x v y → a ≡ first_number n x → b ≡ first_number n y → Made (made 84 a v b why) o → Made (entry_of n f why) o
-made_pair n x v y why a b f o e p q h = rw (e, sym p, sym q) h

@@ -1,6 +1,7 @@
 -- One entry more, and what stands where the entries end.
 use Rattle.std.proofs.Common.{◌≡◌, ℕ, ◌+◌, ◌<◌, ◌≤◌, Bool, true, false, List, [], ◌∷◌, ◌++◌, length, Ok, Err, Result, sym, refl, ap, ◌∙◌, subst, append_assoc, arith, length-append}
 use borrow.Author.Tests.{both_ways}
+use Rattle.std.proofs.lemmas.List.{append-nil}
 use Rattle.rules.specs.declared.base.RuleBase.{RuleBase}
 use Rattle.rules.specs.declared.refusals.Refusal.{Refusal}
 use Rattle.rules.specs.declared.statements.Statement.{Statement}
@@ -83,10 +84,7 @@ module _ (n k r : ℕ) (ss : List Statement) (fine : Fine n k r ss) (es : List (
     -- no entry comes next
     module _ (is : left ≡ []) where
       all_read : es ≡ w.front
-      all_read = w.split ∙ ap (λ v. w.front ++ v) is ∙ append-nil w.front where
-        append-nil : (xs : List (List ℕ)) → xs ++ [] ≡ xs
-        append-nil [] = refl
-        append-nil (x ∷ xs) = ap (λ v. x ∷ v) (append-nil xs)
+      all_read = w.split ∙ ap (λ v. w.front ++ v) is ∙ append-nil w.front
 
       all_entered : Entered n k r ss P held es w.facts
       all_entered = subst (λ (v : List (List ℕ)). Entered n k r ss P held v w.facts) (sym all_read) (entered held (λ x. refl))

@@ -12,7 +12,8 @@ use rules::base::RuleBase;
 use rules::refusals::{Reason, Refusal};
 use rules::statements::Statement;
 
-// The file with an accepted header: a refusal of the file or the store, or no at 0, or what the entries say.
+// The file with an accepted header: a refusal of the file or the store, or no at 0, or what the entries say. Of the store the
+// three clauses of MarkStore stand as there: as one they would be longer, with six numbers.
 fn compare<S: MarkStore>(
     base: RuleBase<'_>,
     header: &[u8],
@@ -51,6 +52,7 @@ pub fn match_file<S: MarkStore>(
     ensures capacity_kept { S.MarkStore.capacity store.new ≡ S.MarkStore.capacity store.old }
     ensures lent_kept { S.MarkStore.lent store.new ≡ S.MarkStore.lent store.old }
 {
+    // fixed memory, since the engine takes no heap; the counts say how much of it is in use
     let mut memory = [Statement::Empty { class: 0 }; 384];
     let counts = take_header(header, &mut memory)?;
     let base = RuleBase::new(counts, &memory[0..counts.statements as usize]);

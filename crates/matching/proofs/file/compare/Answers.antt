@@ -2,20 +2,21 @@ use Rattle.std.proofs.Common.{refl, ◌∙◌, arith}
 use borrow.Author.Tests.{both_ways}
 use Rattle.std.proofs.lemmas.Result.{err_from_is_err_and}
 use Rattle.std.proofs.lemmas.Slice.Eq.{slice_eq-Decides}
-use Rattle.matching.proofs.Kept.{by_file, by_limit, by_header, by_going}
+use Rattle.matching.specs.Matched.{file_refused, limit_low}
+use Rattle.matching.proofs.Kept.{by_header, by_going}
 use Rattle.matching.proofs.file.compare.Goals as goal
 use Rattle.std.proofs.lemmas.Bool.Decides.{Decides-eqb}
 
 pub returns-in_err-parts : goal.returns-in_err-parts
 returns-in_err-parts g c =
     let p = err_from_is_err_and c.from_residual.result c.from_residual.ensures.1 in
-    record { compared = by_file _ _ _ _ _ _ _ _ _ _ c.from_residual.result _ _ p.1 p.2 c.in_err-parts.ensures refl; limit_kept = refl; capacity_kept = refl; lent_kept = refl }
+    record { compared = rw (p.1, p.2) (file_refused c.in_err-parts.ensures refl); limit_kept = refl; capacity_kept = refl; lent_kept = refl }
 
 pub returns-then-limit-fact_limit : goal.returns-then-limit-fact_limit
 returns-then-limit-fact_limit g c =
     let right = c.in_ok-parts.ensures in
     record {
-      compared = by_limit _ _ _ _ _ _ _ _ _ _ c.into.result c.into.ensures right.right c.fact_limit.result c.fact_limit.ensures (omega (arith, c.limit.ensures)) refl;
+      compared = rw c.into.ensures (limit_low right.right (omega (arith, c.limit.ensures, c.fact_limit.ensures)) refl);
       limit_kept = refl;
       capacity_kept = refl;
       lent_kept = refl;
