@@ -31,6 +31,8 @@ fn main(rt: HostRuntime) -> io::Result<()> {
     let len = fill(&mut input, &mut buffer)?;
     let mut rules = Rules::new(rt.alloc())?;
     let mut slots = [None::<u64>; 4096];
-    let survey = tell(&mut rules, &mut slots, &buffer[0..len]);
-    println!(rt; "{survey}")
+    match tell(&mut rules, &mut slots, &buffer[0..len]) {
+        Ok(survey) => println!(rt; "{survey}"),
+        Err(no_survey) => println!(rt; "{no_survey}"),
+    }
 }

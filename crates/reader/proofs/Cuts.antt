@@ -1,97 +1,100 @@
-use Rattle.std.proofs.Common.{◌≡◌, ℕ, zero, suc, ◌+◌, ◌<◌, ◌≤◌, Bool, true, false, cond, ◌&&◌, List, [], ◌∷◌, length, get_or, take, drop, sym, refl, ap, ◌∙◌, inl, inr, add-zero, add-one, arith, length-drop, length-take, get_or-drop, take_all, drop-cons}
-use Rattle.std.proofs.lemmas.List.{drop_more, drop_all, at_drop_more, at_drop_all}
-use Rattle.std.proofs.lemmas.Bool.{eq-eqb, ne_eqb, cases_lt}
-use Rattle.reader.specs.Text.{onto, pieces, filled, words, all}
+use Rattle.std.proofs.Common.{◌≡◌, ℕ, zero, suc, ◌+◌, ◌-◌, ◌<◌, ◌≤◌, Bool, true, false, cond, not, eqb, nat_lt, List, [], ◌∷◌, length, get_or, take, drop, position, Some, None, Option, unwrap_or, sym, refl, ap, ◌∙◌, arith, add-zero, add-one, length-drop, length-take, get_or-drop, take_all, drop-cons}
+use Rattle.std.proofs.lemmas.List.{drop_all}
+use Rattle.std.proofs.lemmas.List.Quantifiers.{position-Some}
+use Rattle.std.proofs.lemmas.List.Sums.{fails_before_first}
+use Rattle.std.proofs.lemmas.Bool.{eqb-true}
+use Rattle.std.specs.List.{position_or_len}
+use Rattle.reader.specs.Text.{lines, onto, pieces, filled, words}
 
--- No byte of the first n is the cut.
-abbrev pub Uncut : ℕ → List ℕ → ℕ → Type 0
-Uncut cut xs n = (k : ℕ) → k < n → get_or xs k 0 ≡ cut → ⊥
+-- None of the first n bytes passes a test.
+abbrev NonePass : (ℕ → Bool) → List ℕ → ℕ → Type 0
+NonePass test xs n = (k : ℕ) → k < n → test (get_or xs k 0) ≡ false
 
-later : (cut x : ℕ) (xs : List ℕ) (n : ℕ) → Uncut cut (x ∷ xs) (suc n) → Uncut cut xs n
-later cut x xs n h k lt e = h (suc k) (omega arith) e
+nowhere : (n m : ℕ) → cond (nat_lt n m) (Some n) None ≡ None → m ≤ n
+nowhere n m e = grind arith
 
-pub pieces_last : (cut : ℕ) (xs : List ℕ) → Uncut cut xs (length xs) → pieces cut xs ≡ xs ∷ []
+none_pass : (test : ℕ → Bool) (xs : List ℕ) → position test xs ≡ None → NonePass test xs (length xs)
+none_pass test xs e k lt = fails_before_first test xs k 0 (let h = nowhere (position_or_len test xs) (length xs) e in omega arith)
+
+-- A text with no cut is one piece; and the first cut ends the first piece.
+one_piece : (cut : ℕ) (xs : List ℕ) → NonePass (λ b. eqb b cut) xs (length xs) → pieces cut xs ≡ xs ∷ []
 unfolding pieces onto
-pieces_last cut [] h = refl
-pieces_last cut (x ∷ xs) h =
-    rw (ne_eqb x cut (h 0 (omega arith)), pieces_last cut xs (later cut x xs (length xs) h))
+one_piece cut [] h = refl
+one_piece cut (x ∷ xs) h = rw (h 0 (omega arith), one_piece cut xs (λ k lt. h (suc k) (omega arith)))
 
-pub pieces_cut : (cut : ℕ) (xs : List ℕ) (r : ℕ) → r < length xs → Uncut cut xs r → get_or xs r 0 ≡ cut
-    → pieces cut xs ≡ take r xs ∷ pieces cut (drop (suc r) xs)
+first_piece : (cut : ℕ) (xs : List ℕ) (i : ℕ) → i < length xs → NonePass (λ b. eqb b cut) xs i → eqb (get_or xs i 0) cut ≡ true
+    → pieces cut xs ≡ take i xs ∷ pieces cut (drop (suc i) xs)
 unfolding pieces onto
-pieces_cut cut [] r lt h e = absurd (omega arith)
-pieces_cut cut (x ∷ xs) zero lt h e = rw (eq-eqb x cut e)
-pieces_cut cut (x ∷ xs) (suc r) lt h e =
-    rw (ne_eqb x cut (h 0 (omega arith)), pieces_cut cut xs r (omega arith) (later cut x xs r h) e)
+first_piece cut [] i lt h e = absurd (omega arith)
+first_piece cut (x ∷ xs) zero lt h e = rw e
+first_piece cut (x ∷ xs) (suc i) lt h e = rw (h 0 (omega arith), first_piece cut xs i (omega arith) (λ k lt. h (suc k) (omega arith)) e)
 
-pub words_space : (xs : List ℕ) → words (32 ∷ xs) ≡ words xs
-unfolding words filled pieces
-words_space xs = refl
+pub uncut : (cut : ℕ) (xs : List ℕ) → position (λ b. eqb b cut) xs ≡ None → pieces cut xs ≡ xs ∷ []
+uncut cut xs e = one_piece cut xs (none_pass (λ b. eqb b cut) xs e)
 
+cut_at : (cut : ℕ) (xs : List ℕ) (i : ℕ) → position (λ b. eqb b cut) xs ≡ Some i → pieces cut xs ≡ take i xs ∷ pieces cut (drop (i + 1) xs)
+cut_at cut xs i e = let h = position-Some (λ b. eqb b cut) xs i 0 e in rw add-one (first_piece cut xs i h.0 h.2 h.1)
+
+to_end : (xs : List ℕ) (n : ℕ) → take (length xs - n) (drop n xs) ≡ drop n xs
+to_end xs n = take_all (length xs - n) (drop n xs) (simp length-drop (omega arith))
+
+-- The first line ends at the first newline, and what is cut off after it has the other lines.
+pub line_cut : (xs : List ℕ) (i : ℕ) → position (λ b. eqb b 10) xs ≡ Some i → lines xs ≡ take i xs ∷ lines (take (length xs - (i + 1)) (drop (i + 1) xs))
+line_cut xs i e = rw (to_end xs (i + 1)) (cut_at 10 xs i e)
+
+-- Spaces at the front change nothing.
 pub words_none : words [] ≡ []
 unfolding words filled pieces
 words_none = refl
+
+words_space : (xs : List ℕ) → words (32 ∷ xs) ≡ words xs
+unfolding words filled pieces
+words_space xs = refl
+
+words_skip : (xs : List ℕ) (i : ℕ) → i ≤ length xs → NonePass (λ b. not (eqb b 32)) xs i → words xs ≡ words (drop i xs)
+words_skip xs zero le h = refl
+words_skip [] (suc i) le h = absurd (omega arith)
+words_skip (x ∷ xs) (suc i) le h =
+    let space : x ≡ 32 = eqb-true x 32 (grind (arith, h 0 (omega arith))) in
+    ap (λ (b : ℕ). words (b ∷ xs)) space ∙ words_space xs ∙ words_skip xs i (omega arith) (λ k lt. h (suc k) (omega arith))
+
+pub words_over : (xs : List ℕ) → position (λ b. not (eqb b 32)) xs ≡ None → words xs ≡ []
+words_over xs e = words_skip xs (length xs) (omega arith) (none_pass (λ b. not (eqb b 32)) xs e) ∙ ap words (drop_all (length xs) xs (omega arith)) ∙ words_none
 
 filled_head : (p : List ℕ) (ps : List (List ℕ)) → 0 < length p → filled (p ∷ ps) ≡ p ∷ filled ps
 unfolding filled
 filled_head [] ps h = absurd (omega arith)
 filled_head (b ∷ bs) ps h = refl
 
--- One more space passed.
-pub spaces_more : (xs : List ℕ) (i : ℕ) → i < length xs → get_or xs i 0 ≡ 32 → words xs ≡ words (drop i xs) → words xs ≡ words (drop (i + 1) xs)
-spaces_more xs i lt e h = h ∙ ap words (drop_more xs i 0 lt ∙ ap (λ (b : ℕ). b ∷ drop (i + 1) xs) e) ∙ words_space (drop (i + 1) xs)
-
-cut_here : (ys : List ℕ) (r : ℕ) → 0 < r → Uncut 32 ys r → r < length ys → get_or ys r 0 ≡ 32 → words ys ≡ take r ys ∷ words (drop r ys)
+-- A text that begins with no space begins with a word, up to the first space or to its end.
+word_to : (ys : List ℕ) (r : ℕ) → 0 < r → r < length ys → get_or ys r 0 ≡ 32 → pieces 32 ys ≡ take r ys ∷ pieces 32 (drop (r + 1) ys) → words ys ≡ take r ys ∷ words (drop r ys)
 unfolding words
-cut_here ys r pos un lt e = ap filled (pieces_cut 32 ys r lt un e) ∙ filled_head (take r ys) (pieces 32 (drop (suc r) ys)) (simp length-take (omega arith))
-    ∙ ap (λ (ws : List (List ℕ)). take r ys ∷ ws) (sym (words_space (drop (suc r) ys)) ∙ ap words (ap (λ (b : ℕ). b ∷ drop (suc r) ys) (sym e) ∙ sym (drop-cons ys r 0 lt)))
+word_to ys r pos lt space e =
+    let rest : words (drop r ys) ≡ words (drop (r + 1) ys) = rw (add-one, drop-cons ys r 0, space) (words_space (drop (suc r) ys)) in
+    ap filled e ∙ filled_head (take r ys) _ (simp length-take (omega arith)) ∙ ap (λ (ws : List (List ℕ)). take r ys ∷ ws) (sym rest)
 
-at_end : (ys : List ℕ) (r : ℕ) → 0 < r → Uncut 32 ys r → length ys ≡ r → words ys ≡ take r ys ∷ words (drop r ys)
+word_all : (ys : List ℕ) → 0 < length ys → pieces 32 ys ≡ ys ∷ [] → words ys ≡ take (length ys) ys ∷ words (drop (length ys) ys)
 unfolding words filled
-at_end ys r pos un q = ap filled (pieces_last 32 ys (λ k lt. un k (omega arith))) ∙ filled_head ys [] (omega arith)
-    ∙ (rw (take_all r ys (omega arith), drop_all r ys (omega arith)) (sym (ap (λ (ws : List (List ℕ)). ys ∷ ws) words_none)))
+word_all ys some e = ap filled e ∙ filled_head ys [] some ∙ sym (rw (take_all (length ys) ys (omega arith), drop_all (length ys) ys (omega arith)) (ap (λ (ws : List (List ℕ)). ys ∷ ws) words_none))
 
--- A word is taken off.
-pub word_step : (ys : List ℕ) (r : ℕ) → 0 < r → r ≤ length ys → Uncut 32 ys r → (r < length ys → get_or ys r 0 ≡ 32) → words ys ≡ take r ys ∷ words (drop r ys)
-word_step ys r pos le un e = elim (cases_lt r (length ys)) [ inl lt ↦ cut_here ys r pos un lt (e lt) | inr ge ↦ at_end ys r pos un (omega arith) ]
+-- The first word of xs is the first r bytes of what is left of xs after its first spaces.
+pub record FirstWord (xs ys : List ℕ) (r : ℕ) : Type 0 where
+  pub some : 0 < r
+  pub is : words xs ≡ take r ys ∷ words (drop r ys)
 
--- A first byte that is bare space gives a word that is not empty.
-pub word_first : (ys : List ℕ) (r : ℕ) → 0 < length ys → (get_or ys 0 0 ≡ 32 → ⊥) → (r < length ys → get_or ys r 0 ≡ 32) → 0 < r
-word_first ys zero some bare e = absurd (bare (e some))
-word_first ys (suc r) some bare e = omega arith
+first_word : (ys : List ℕ) (o : Option ℕ) → position (λ b. eqb b 32) ys ≡ o → 0 < length ys → eqb (get_or ys 0 0) 32 ≡ false → FirstWord ys ys (unwrap_or o (length ys))
+first_word ys None e some bare = record { some = some; is = word_all ys some (uncut 32 ys e) }
+first_word ys (Some zero) e some bare = let h = position-Some (λ b. eqb b 32) ys zero 0 e in absurd (grind (arith, h.1, bare))
+first_word ys (Some (suc r)) e some bare =
+    let h = position-Some (λ b. eqb b 32) ys (suc r) 0 e in
+    record { some = omega arith; is = word_to ys (suc r) (omega arith) h.0 (eqb-true (get_or ys (suc r) 0) 32 h.1) (cut_at 32 ys (suc r) e) }
 
-pub taken_some : (xs part : List ℕ) (from end : ℕ) → part ≡ drop from xs → from < length xs → (get_or xs from 0 ≡ 32 → ⊥)
-    → (end < length part → get_or part end 0 ≡ 32) → 0 < end
-taken_some xs part from end p lt bare e = word_first part end (rw (p, length-drop) (omega arith)) (λ q. bare (sym (get_or-drop from xs 0 0 ∙ ap (λ (k : ℕ). get_or xs k 0) (add-zero from)) ∙ ap (λ (l : List ℕ). get_or l 0 0) (sym p) ∙ q)) e
-
-pub words_taken : (xs part word rest : List ℕ) (from end : ℕ) → words xs ≡ words (drop from xs) → part ≡ drop from xs → word ≡ take end part → rest ≡ drop end part
-    → from < length xs → (get_or xs from 0 ≡ 32 → ⊥)
-    → end ≤ length part → Uncut 32 part end → (end < length part → get_or part end 0 ≡ 32)
-    → words xs ≡ word ∷ words rest
-words_taken xs part word rest from end same p w r lt bare le un e =
-    same ∙ rw (w, r, ← p) (word_step part end (taken_some xs part from end p lt bare e) le un e)
-
-pub words_over : (xs : List ℕ) (from : ℕ) → words xs ≡ words (drop from xs) → from ≡ length xs → words xs ≡ []
-words_over xs from same e = same ∙ ap words (drop_all from xs (omega arith)) ∙ words_none
-
-pub line_more : (text here rest : List ℕ) (end : ℕ) (more : Bool) → more ≡ true → end ≤ length text → (end ≡ length text → ⊥) → Uncut 10 text end
-    → (end < length text → get_or text end 0 ≡ 10) → here ≡ take end text → rest ≡ drop (end + 1) text → pieces 10 text ≡ here ∷ cond more (pieces 10 rest) []
-line_more text here rest end more m le ne un e h r =
-    let lt : end < length text = omega arith in
-    rw (m, h, r, add-one) (pieces_cut 10 text end lt un (e lt))
-
-pub line_last : (text here rest : List ℕ) (end : ℕ) → end ≡ length text → Uncut 10 text end → here ≡ take end text → pieces 10 text ≡ here ∷ []
-line_last text here rest end q un h = rw (h, take_all end text (omega arith)) (pieces_last 10 text (λ k lt. un k (omega arith)))
-
-module _ (test : ℕ → Bool) (xs : List ℕ) (i : ℕ) where
-  pub all_more : i < length xs → test (get_or xs i 0) ≡ true → all test xs ≡ all test (drop i xs) → all test xs ≡ all test (drop (i + 1) xs)
-  unfolding all
-  all_more lt e h = h ∙ at_drop_more (all test) xs i 0 lt ∙ ap (λ (b : Bool). b && all test (drop (i + 1) xs)) e
-
-  pub all_stop : i < length xs → test (get_or xs i 0) ≡ false → all test xs ≡ all test (drop i xs) → false ≡ all test xs
-  unfolding all
-  all_stop lt e h = sym (h ∙ at_drop_more (all test) xs i 0 lt ∙ ap (λ (b : Bool). b && all test (drop (i + 1) xs)) e)
-
-  pub all_end : length xs ≤ i → all test xs ≡ all test (drop i xs) → true ≡ all test xs
-  unfolding all
-  all_end le h = sym (h ∙ at_drop_all (all test) xs i le)
+pub words_found : (xs : List ℕ) (from : ℕ) → position (λ b. not (eqb b 32)) xs ≡ Some from → (ys : List ℕ) → ys ≡ drop from xs
+    → (o : Option ℕ) → o ≡ position (λ b. eqb b 32) ys → (r : ℕ) → r ≡ unwrap_or o (length ys) → FirstWord xs ys r
+words_found xs from e ys ye o oe r re =
+    let h = position-Some (λ b. not (eqb b 32)) xs from 0 e in
+    let low : from < length xs = h.0 in
+    let head : get_or ys 0 0 ≡ get_or xs from 0 = rw ye (get_or-drop from xs 0 0 ∙ ap (λ (k : ℕ). get_or xs k 0) (add-zero from)) in
+    let some : 0 < length ys = rw (ye, length-drop) (omega arith) in
+    let w = first_word ys o (sym oe) some (rw head (grind (arith, h.1))) in
+    record { some = rw re w.some; is = words_skip xs from (omega arith) h.2 ∙ ap words (sym ye) ∙ rw re w.is }

@@ -1,6 +1,7 @@
 -- How a text is taken apart. A text is a list of bytes. Each newline ends a line, so a text has one line more than it has
 -- newlines. Spaces part the words of a line; spaces at its ends, and more than one in a row, change nothing.
-use Rattle.std.specs.Prelude.{ℕ, Bool, true, false, cond, ◌&&◌, ◌||◌, List, [], ◌∷◌, length, ◌==◌, nat_le}
+use Rattle.std.specs.Prelude.{ℕ, Bool, cond, ◌&&◌, ◌||◌, List, [], ◌∷◌, length, ◌==◌, nat_le}
+use Rattle.std.specs.List.{list_all}
 
 -- A byte in front of the first of some pieces.
 unfoldable pub onto : ℕ → List (List ℕ) → List (List ℕ)
@@ -26,11 +27,6 @@ lines text = pieces 10 text
 unfoldable pub words : List ℕ → List (List ℕ)
 words line = filled (pieces 32 line)
 
--- One for yes.
-abbrev pub one : Bool → ℕ
-one true = 1
-one false = 0
-
 -- A byte from one to another, both included.
 abbrev pub from_to : ℕ → ℕ → ℕ → Bool
 from_to low high b = nat_le low b && nat_le b high
@@ -43,9 +39,9 @@ name_byte b = from_to 97 122 b || from_to 48 57 b || b == 45
 abbrev pub line_byte : ℕ → Bool
 line_byte b = name_byte b || from_to 65 90 b || b == 32
 
+-- Each of some bytes passes a test.
 unfoldable pub all : (ℕ → Bool) → List ℕ → Bool
-all test [] = true
-all test (b ∷ bs) = test b && all test bs
+all test bytes = list_all test bytes
 
 -- A line has at most 120 bytes, each of which a line may have.
 abbrev pub proper : List ℕ → Bool

@@ -5,35 +5,28 @@ ghost use Rattle.reader.specs.Text.{all, name_byte, line_byte, proper, is_name};
 fn is_name_byte(b: u8) -> bool
     ensures { result ≡ name_byte b }
 {
-    b >= b'a' && b <= b'z' || b >= b'0' && b <= b'9' || b == b'-'
+    matches!(b, b'a'..=b'z' | b'0'..=b'9' | b'-')
 }
 
 fn is_line_byte(b: u8) -> bool
     ensures { result ≡ line_byte b }
 {
-    is_name_byte(b) || b >= b'A' && b <= b'Z' || b == b' '
+    is_name_byte(b) || matches!(b, b'A'..=b'Z' | b' ')
 }
 
+// This and the next stand alone, since a chain behind `&&` gets no proof; one function over a test would ask for a contract longer than both.
+#[tactic(auto, unfolding(crate::specs::Text::all))]
 fn all_line_bytes(line: &[u8]) -> bool
     ensures { result ≡ all line_byte line.now }
 {
-    for b in line {
-        if !is_line_byte(*b) {
-            return false;
-        }
-    }
-    true
+    line.iter().all(|b| is_line_byte(*b))
 }
 
+#[tactic(auto, unfolding(crate::specs::Text::all))]
 fn all_name_bytes(word: &[u8]) -> bool
     ensures { result ≡ all name_byte word.now }
 {
-    for b in word {
-        if !is_name_byte(*b) {
-            return false;
-        }
-    }
-    true
+    word.iter().all(|b| is_name_byte(*b))
 }
 
 /// Whether a line has no other bytes than it may have, and not too many.

@@ -1,9 +1,9 @@
 // From line to line and from word to word.
-ghost use Rattle.std.specs.Prelude.{◌≡◌, ℕ, ◌+◌, ◌<◌, ◌≤◌, Bool, true, false, List, [], ◌∷◌, length, drop, MatchBool, MatchOption, ◌≢◌, slice_index};
-ghost use Rattle.reader.specs.Text.{words};
-ghost use Rattle.reader.specs.Reading.{AtStart, NextLine, NoLine, NextWord, NoWord};
+ghost use Rattle.std.specs.Prelude.{◌≡◌, ◌<◌, ◌==◌, ◌∷◌, not, length, position, IfSome, MatchOption};
+ghost use Rattle.reader.specs.Text.{lines};
+ghost use Rattle.reader.specs.Reading.{lines_of, AtStart, NextLine, NoLine, NextWord, NoWord};
 
-use crate::reader::{Reader, Word};
+use crate::reader::{Line, Reader, Word};
 
 impl<'a> Reader<'a> {
     /// A reader before the first line of a text.
@@ -11,50 +11,36 @@ impl<'a> Reader<'a> {
         ensures { AtStart text.now result }
     {
         Reader {
-            here: &text[0..0],
-            rest: text,
-            more: true,
+            rest: Some(text),
             line: 0,
-            word: 0,
         }
     }
 
-    /// Goes to the next line, if there is one.
-    pub fn next_line(&mut self) -> bool
-        ensures { MatchBool result (NextLine self.old self.new) (NoLine self.old self.new) }
+    /// The next line, if there is one.
+    pub fn next_line(&mut self) -> Option<Line<'a>>
+        ensures { MatchOption result (NoLine self.old self.new) (λ l. NextLine self.old l self.new) }
     {
-        if !self.more {
-            return false;
-        }
-        let text = self.rest;
-        let end = first(text, b'\n');
-        let (here, rest) = text.split_at(end);
-        self.here = here;
-        self.word = 0;
-        if end == text.len() {
-            self.rest = rest;
-            self.more = false;
-            self.line += 1;
-            return true;
-        }
-        let (_, rest) = text.split_at(end + 1);
-        self.rest = rest;
-        self.line += 1;
-        true
+        let text = self.rest?;
+        let (here, rest) = cut_line(text);
+        let line = self.line + 1;
+        *self = Reader { rest, line };
+        Some(Line {
+            here,
+            line,
+            word: 0,
+        })
     }
+}
 
-    /// The next word of the line that the reader is in, if there is one.
+impl<'a> Line<'a> {
+    /// The next word of the line, if there is one.
     pub fn next_word(&mut self) -> Option<Word<'a>>
         ensures { MatchOption result (NoWord self.old self.new) (λ w. NextWord self.old w self.new) }
     {
-        let text = self.here;
-        let from = spaces(text);
-        if from == text.len() {
-            return None;
-        }
-        let (_, part) = text.split_at(from);
-        let end = first(part, b' ');
-        let (bytes, rest) = part.split_at(end);
+        let from = first_but(self.here, b' ')?;
+        let (_, text) = self.here.split_at(from);
+        let end = first(text, b' ').unwrap_or(text.len());
+        let (bytes, rest) = text.split_at(end);
         self.here = rest;
         self.word += 1;
         Some(Word {
@@ -65,30 +51,27 @@ impl<'a> Reader<'a> {
     }
 }
 
-// Where the first byte `cut` stands, or the length.
-fn first(text: &[u8], cut: u8) -> usize
-    ensures within { result ≤ length text.now }
-    ensures before { (k : ℕ) → k < result → slice_index text.now k ≢ cut }
-    ensures found { result < length text.now → slice_index text.now result ≡ cut }
+// The first line of a text, and the text after it if there is another line.
+fn cut_line(text: &[u8]) -> (&[u8], Option<&[u8]>)
+    ensures lines { lines text.now ≡ result.0.now ∷ lines_of result.1 }
+    ensures shorter { IfSome result.1 (λ rest. length rest.now < length text.now) }
 {
-    for i in 0..text.len() {
-        if text[i] == cut {
-            return i;
-        }
+    match first(text, b'\n') {
+        Some(end) => (&text[..end], Some(&text[end + 1..])),
+        None => (text, None),
     }
-    text.len()
 }
 
-// How many spaces a text starts with.
-fn spaces(text: &[u8]) -> usize
-    ensures within { result ≤ length text.now }
-    ensures words { words text.now ≡ words (drop result text.now) }
-    ensures found { result < length text.now → slice_index text.now result ≢ 32 }
+// Where the first byte `cut` stands.
+fn first(text: &[u8], cut: u8) -> Option<usize>
+    ensures { result ≡ position (λ b. b == cut) text.now }
 {
-    for i in 0..text.len() {
-        if text[i] != b' ' {
-            return i;
-        }
-    }
-    text.len()
+    text.iter().position(|b| *b == cut)
+}
+
+// Where the first byte other than `cut` stands.
+fn first_but(text: &[u8], cut: u8) -> Option<usize>
+    ensures { result ≡ position (λ b. not (b == cut)) text.now }
+{
+    text.iter().position(|b| *b != cut)
 }

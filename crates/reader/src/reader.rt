@@ -1,6 +1,6 @@
-// The reader and the words that it hands out: both borrow the text, and no byte is copied.
-ghost use Rattle.std.specs.Prelude.{◌+◌, ◌^◌, ◌<◌, ◌≤◌, length};
-ghost use Rattle.reader.specs.Text.{one};
+// The reader, the lines and the words that it hands out: all borrow the text, and no byte is copied.
+ghost use Rattle.std.specs.Prelude.{◌+◌, ◌^◌, ◌<◌, ◌≤◌, length, MatchOption};
+ghost use Rattle.std.proofs.Props.{props};
 
 use std::convert::AsSlice;
 
@@ -20,14 +20,19 @@ impl AsSlice<u8> for Word<'_> {
     }
 }
 
-/// Walks a text: `here` is what is left of the line that it is in, `rest` the text after that line, if there is `more`.
+/// What is left of a line after so many words; lines count from 1.
 #[derive(Clone, Copy)]
-pub struct Reader<'a> {
+pub struct Line<'a> {
     pub here: &'a [u8],
-    pub rest: &'a [u8],
-    pub more: bool,
     pub line: usize,
     pub word: usize,
-    ghost lines: { line + length rest.now + one more ≤ 2 ^ 63 },
     ghost words: { word + length here.now < 2 ^ 64 },
+}
+
+/// Walks a text line by line: `rest` is the text after so many lines, if there is another.
+#[derive(Clone, Copy)]
+pub struct Reader<'a> {
+    pub rest: Option<&'a [u8]>,
+    pub line: usize,
+    ghost lines: { MatchOption rest (line ≤ 2 ^ 63) (λ text. line + length text.now < 2 ^ 63) } by { Prim.hlevel props },
 }

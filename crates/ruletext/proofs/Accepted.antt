@@ -1,11 +1,15 @@
-use Rattle.std.proofs.Common.{◌≡◌, ℕ, zero, suc, ◌+◌, ◌-◌, ◌<◌, Bool, true, false, cond, eqb, ltb, List, [], ◌∷◌, ◌++◌, length, get_or, drop, is_some, Some, None, Ok, Err, Option, Result, sym, refl, ap, ◌∙◌, subst, arith, length-append}
+use Rattle.std.proofs.Common.{◌≡◌, ℕ, zero, suc, ◌+◌, ◌-◌, ◌<◌, ◌≤◌, Bool, true, false, cond, eqb, ltb, List, [], ◌∷◌, ◌++◌, length, get_or, drop, is_some, Some, None, Ok, Err, Option, Result, sym, refl, ap, ◌∙◌, subst, arith, length-append}
 use Rattle.std.specs.Str.{bytes_eq}
 use Rattle.std.proofs.lemmas.Slice.Eq.{bytes_eq-Decides}
 use Rattle.std.proofs.lemmas.Bool.{eqb-true}
+use Rattle.std.proofs.lemmas.List.Quantifiers.{position-Some}
+use Rattle.std.proofs.lemmas.List.Sums.{fails_before_first}
+use Rattle.std.specs.List.{position_or_len}
 use Rattle.rules.specs.Forms.{FieldKinds, fields_of_form, in_order, used}
 use Rattle.rules.specs.Limits.{most, most_statements, within_limits}
 use Rattle.rules.specs.Refusals.{refusal as at}
 use Rattle.rules.specs.Statements.{statement_of}
+use Rattle.rules.specs.declared.counts.Counts.{Counts}
 use Rattle.rules.specs.declared.forms.Kind.{Kind}
 use Rattle.rules.specs.declared.forms.Kind.TheVariants.{Individual, Class, Role}
 use Rattle.rules.specs.declared.refusals.Refusal.{Refusal}
@@ -13,10 +17,13 @@ use Rattle.rules.specs.declared.refusals.Reason.TheVariants as because
 use Rattle.rules.specs.declared.statements.Statement.{Statement}
 use Rattle.reader.specs.Text.{lines, words, proper, is_name}
 use Rattle.ruletext.specs.Outcome.{Name, Contents, names, found, nothing, declared, added, check, then, known, all_names, numbers, new_name, declares, declared_kind, stating, by_form, by_kind, by_letter, by_words, by_line, by_lines, counted, by_text}
+use Rattle.ruletext.specs.Means.{Means}
+use Rattle.ruletext.specs.Reading.{Counted}
+use Rattle.std.specs.Result.{MatchResult, OnOk}
 use Rattle.reader.specs.Cut.{Each}
 use Rattle.ruletext.specs.Laws.{EachWith, words_of, DeclaredIn, Called, FieldsCalled, StatedIn, Apart, Orderly}
 
--- What an by-text that is no refusal says of the checks before it.
+-- What a text that is not refused says of the checks before it.
 check_ok : {X : Type 0} (b : Bool) (e : Refusal) (r : Result X Refusal) (t : X) → check b e r ≡ Ok t → (b ≡ true) × (r ≡ Ok t)
 check_ok true e r t h = (refl, h)
 check_ok false e r t h = let z : ◌≡◌ {A = ℕ} 0 1 = cc in absurd (omega arith)
@@ -68,13 +75,21 @@ one_word (x ∷ xs) h = absurd (omega arith)
 differ : (xs ys : List ℕ) → bytes_eq xs ys ≡ false → xs ≡ ys → ⊥
 differ xs ys h e = let q = (bytes_eq-Decides xs ys).1 e in let z : ◌≡◌ {A = ℕ} 0 1 = cc in omega arith
 
-found_none : (i : ℕ) (x : List ℕ) (ns : List Name) → found i x ns ≡ None → Each (λ y. y.spelt ≡ x → ⊥) ns
-unfolding found
-found_none i x [] h = tt
-found_none i x (y ∷ ys) h = by (bytes_eq y.spelt x) refl h (found_none (i + 1) x ys) where
-  by : (b : Bool) → bytes_eq y.spelt x ≡ b → cond b (Some i) (found (i + 1) x ys) ≡ None → (found (i + 1) x ys ≡ None → Each (λ z. z.spelt ≡ x → ⊥) ys) → Each (λ z. z.spelt ≡ x → ⊥) (y ∷ ys)
-  by true e q more = let z : ◌≡◌ {A = ℕ} 0 1 = cc in absurd (omega arith)
-  by false e q more = (differ y.spelt x e, more q)
+abbrev blank : Name
+blank = record { spelt = []; line = 0; word = 0 }
+
+each_at : (P : Name → Type 0) (ns : List Name) → ((k : ℕ) → k < length ns → P (get_or ns k blank)) → Each P ns
+each_at P [] h = tt
+each_at P (n ∷ ns) h = (h 0 (omega arith), each_at P ns (λ k lt. h (suc k) (omega arith)))
+
+nowhere : (n m : ℕ) → cond (ltb n m) (Some n) None ≡ None → m ≤ n
+nowhere n m e = grind arith
+
+found_none : (x : List ℕ) (ns : List Name) → found x ns ≡ None → Each (λ y. y.spelt ≡ x → ⊥) ns
+found_none x ns e =
+    let test : Name → Bool = λ y. bytes_eq y.spelt x in
+    let past = nowhere (position_or_len test ns) (length ns) e in
+    each_at (λ y. y.spelt ≡ x → ⊥) ns (λ k lt. differ (get_or ns k blank).spelt x (fails_before_first test ns k blank (omega arith)))
 
 not_some : (o : Option ℕ) → cond (is_some o) false true ≡ true → o ≡ None
 not_some None h = refl
@@ -84,31 +99,10 @@ apart_push : (xs : List Name) (n : Name) → Apart xs → Each (λ y. y.spelt �
 apart_push [] n h f = (tt, tt)
 apart_push (x ∷ xs) n h f = (each_push (λ y. y.spelt ≡ x.spelt → ⊥) xs n h.0 (λ e. f.0 (sym e)), apart_push xs n h.1 f.1)
 
-abbrev blank : Name
-blank = record { spelt = []; line = 0; word = 0 }
-
--- A name that is found stands at its place.
-record Stands (j : ℕ) (x : List ℕ) (ns : List Name) (i : ℕ) : Type 0 where
-  steps : ℕ
-  place : i ≡ j + steps
-  low : steps < length ns
-  is : (get_or ns steps blank).spelt ≡ x
-
-found_stands : (j : ℕ) (x : List ℕ) (ns : List Name) (i : ℕ) → found j x ns ≡ Some i → Stands j x ns i
-unfolding found
-found_stands j x [] i h = let z : ◌≡◌ {A = ℕ} 0 1 = cc in absurd (omega arith)
-found_stands j x (y ∷ ys) i h = by (bytes_eq y.spelt x) refl h (found_stands (j + 1) x ys i) where
-  by : (b : Bool) → bytes_eq y.spelt x ≡ b → cond b (Some j) (found (j + 1) x ys) ≡ Some i → (found (j + 1) x ys ≡ Some i → Stands (j + 1) x ys i) → Stands j x (y ∷ ys) i
-  by true e q more = let p : j ≡ i = cc in record { steps = 0; place = omega arith; low = omega arith; is = (bytes_eq-Decides y.spelt x).0 e }
-  by false e q more =
-      let r = more q in
-      record { steps = suc r.steps; place = let a = r.place in omega arith; low = let a = r.low in omega arith; is = r.is }
-
-called : (s : Contents) (k : Kind) (x : List ℕ) (i : ℕ) → found 0 x (names s k) ≡ Some i → Called s k i x
+called : (s : Contents) (k : Kind) (x : List ℕ) (i : ℕ) → found x (names s k) ≡ Some i → Called s k i x
 called s k x i h =
-    let r = found_stands 0 x (names s k) i h in
-    let e : i ≡ r.steps = let a = r.place in omega arith in
-    record { low = let a = r.low in omega arith; is = ap (λ (n : ℕ). (get_or (names s k) n blank).spelt) e ∙ r.is }
+    let p = position-Some (λ y. bytes_eq y.spelt x) (names s k) i blank h in
+    record { low = p.0; is = (bytes_eq-Decides (get_or (names s k) i blank).spelt x).0 p.1 }
 
 -- Fields.
 fields_called : (line w : ℕ) (s : Contents) (ks : List (Option Kind)) (xs : List (List ℕ)) (is : List ℕ) → numbers line w s ks xs ≡ Ok is → length xs ≡ used ks → FieldsCalled s ks is xs
@@ -120,10 +114,10 @@ fields_called line w s (None ∷ ks) xs is e l =
     subst (λ (js : List ℕ). FieldsCalled s (None ∷ ks) js xs) (ok_same (0 ∷ q.0) is q.2) (refl, fields_called line w s ks xs q.0 q.1 l)
 fields_called line w s (Some k ∷ ks) [] is e l = let z : ◌≡◌ {A = ℕ} 0 1 = cc in absurd (omega arith)
 fields_called line w s (Some k ∷ ks) (x ∷ xs) is e l =
-    let p = then_ok (known (found 0 x (names s k)) (at because.NotDeclared line w)) _ is e in
+    let p = then_ok (known (found x (names s k)) (at because.NotDeclared line w)) _ is e in
     let q = then_ok (numbers line (w + 1) s ks xs) _ is p.2 in
     subst (λ (js : List ℕ). FieldsCalled s (Some k ∷ ks) js (x ∷ xs)) (ok_same (p.0 ∷ q.0) is q.2)
-    (called s k x p.0 (known_ok (found 0 x (names s k)) _ p.0 p.1), fields_called line (w + 1) s ks xs q.0 q.1 (omega arith))
+    (called s k x p.0 (known_ok (found x (names s k)) _ p.0 p.1), fields_called line (w + 1) s ks xs q.0 q.1 (omega arith))
 
 -- Names that stand keep their numbers as more are read.
 abbrev Grown : Contents → Contents → Type 0
@@ -218,13 +212,13 @@ module _ (text : List ℕ) (line : ℕ) (s : Contents) (h : Kept text s) (b : �
   unfolding new_name all_names
   kept_new k ke [] w l u a t e = absurd (omega arith)
   kept_new k ke (x ∷ xs) w l u a t e =
-      let p = check_ok (cond (is_some (found 0 x (names s k))) false true) _ _ t e in
+      let p = check_ok (cond (is_some (found x (names s k))) false true) _ _ t e in
       let q = check_ok (ltb (length (names s k)) (most k)) _ _ t p.1 in
       let n : Name = record { spelt = x; line = line; word = 2 } in
       let v : declared s k n ≡ t = ok_same (declared s k n) t q.1 in
       let bare : xs ≡ [] = one_word xs (omega arith) in
       subst (Kept text) v
-      (kept_declared text s k n h (found_none 0 x (names s k) (not_some (found 0 x (names s k)) p.0))
+      (kept_declared text s k n h (found_none x (names s k) (not_some (found x (names s k)) p.0))
       (record { letter = b; kind = ke; line = w ∙ ap (λ (ys : List (List ℕ)). (b ∷ []) ∷ x ∷ ys) bare; word = refl; name = (check_ok (is_name x) _ _ u a).0 }))
 
   kept_declares : (k : Kind) → declared_kind b ≡ Some k → (xs : List (List ℕ)) → words_of text line ≡ (b ∷ []) ∷ xs → (t : Contents) → declares line s k xs ≡ Ok t → Kept text t
@@ -289,3 +283,8 @@ orderly text s e =
     let k = kept_lines text 0 nothing (lines text) refl q.0 (record { apart = λ k. (no_names text k).0; told = λ k. (no_names text k).1; stated = tt }) q.1 in
     let p = check_ok (within_limits (length q.0.individuals) (length q.0.classes) (length q.0.roles) (length q.0.statements)) _ _ s q.2 in
     subst (Orderly text) (ok_same q.0 s p.1) (record { counts = p.0; apart = k.apart; declared = k.told; stated = k.stated })
+
+-- The same, where the text may be refused instead.
+pub orderly_if : (text : List ℕ) (s : Contents) (r : Result Counts Refusal) → MatchResult r (λ c. Means text (Ok s) × Counted c s) (λ e. Means text (Err e)) → OnOk r (Orderly text s)
+orderly_if text s (Ok c) h = orderly text s h.0.0
+orderly_if text s (Err e) h = tt

@@ -18,16 +18,3 @@ base_is n k r m ss us ts e h l f = h ∙ ap (λ (vs : List Statement). if_passed
 pub fit_counted : (c : Counts) (s : Contents) → Counted c s → all_fit (length s.individuals) (length s.classes) (length s.roles) s.statements ≡ true
     → all_fit c.individuals c.classes c.roles s.statements ≡ true
 fit_counted c s h f = rw (h.individuals, h.classes, h.roles) f
-
-any_default : (ns : List ℕ) (p a b : ℕ) → p < length ns → get_or ns p a ≡ get_or ns p b
-any_default [] p a b l = absurd (omega arith)
-any_default (n ∷ ns) zero a b l = refl
-any_default (n ∷ ns) (suc p) a b l = any_default ns p a b (omega arith)
-
--- The line of the first statement that breaks its condition.
-pub breaks_at : (s : Contents) (ts : List Statement) (p : ℕ) → ts ≡ s.statements → FirstBreaking ts p → length s.lines ≡ length s.statements
-    → (n : ℕ) → n ≡ get_or s.lines p n → (e : Refusal) → e ≡ at because.NotAdmissible n 1 → BreaksAt s e
-breaks_at s ts p te first even n ne e ee =
-    let f : FirstBreaking s.statements p = subst (λ (us : List Statement). FirstBreaking us p) te first in
-    let low : p < length s.lines = omega (arith, f.breaks.at.low) in
-    record { place = p; first = f; is = ee ∙ ap (λ (l : ℕ). at because.NotAdmissible l 1) (ne ∙ any_default s.lines p n 0 low) }

@@ -1,6 +1,6 @@
 use Rattle.rules.specs.Refusals.{refusal as at}
 use Rattle.rules.specs.declared.refusals.Reason.TheVariants as because
-use Rattle.std.proofs.Common.{◌≡◌, ℕ, ◌+◌, ◌<◌, ◌≤◌, Bool, true, false, List, ◌∷◌, map, length, is_some, Ok, Err, Option, Result, sym, ap, ◌∙◌, arith}
+use Rattle.std.proofs.Common.{◌≡◌, ℕ, ◌+◌, ◌<◌, ◌≤◌, Bool, true, false, List, ◌∷◌, map, length, position, is_some, Ok, Err, Option, Result, sym, ap, ◌∙◌, arith}
 use lib.ListN.{length-map}
 use Rattle.std.proofs.lemmas.Bool.{eq-eqb, ne_eqb, lt-ltb, le-ltb}
 use Rattle.rules.specs.declared.refusals.Refusal.{Refusal}
@@ -8,6 +8,8 @@ use Rattle.rules.specs.declared.forms.Kind.{Kind}
 use Rattle.ruletext.specs.Outcome.{Contents, names, found, all_names, new_name, declares, declared}
 use Rattle.rules.specs.Limits.{most}
 use Rattle.ruletext.specs.Reading.{spelt}
+use Rattle.ruletext.proofs.Finds.{found_spelt}
+use Rattle.std.specs.Str.{bytes_eq}
 use Rattle.reader.specs.declared.reader.Word.{Word}
 
 module _ (line : ℕ) (s : Contents) (k : Kind) (xs : List (List ℕ)) where
@@ -25,15 +27,15 @@ module _ (line : ℕ) (s : Contents) (k : Kind) (xs : List (List ℕ)) where
     then_new = rw (eq-eqb (length xs) 1 h, a)
 
     module _ (x : List ℕ) (rest : List (List ℕ)) (e : xs ≡ x ∷ rest) where
-      pub before : is_some (found 0 x (names s k)) ≡ true → declares line s k xs ≡ Err (at because.DeclaredBefore line 2)
+      pub before : is_some (found x (names s k)) ≡ true → declares line s k xs ≡ Err (at because.DeclaredBefore line 2)
       unfolding new_name
       before f = then_new ∙ rw (e, f)
 
-      pub full : is_some (found 0 x (names s k)) ≡ false → most k ≤ length (names s k) → declares line s k xs ≡ Err (at because.CountOutOfLimits line 1)
+      pub full : is_some (found x (names s k)) ≡ false → most k ≤ length (names s k) → declares line s k xs ≡ Err (at because.CountOutOfLimits line 1)
       unfolding new_name
       full f l = then_new ∙ rw (e, f, le-ltb (length (names s k)) (most k) l)
 
-      pub put : is_some (found 0 x (names s k)) ≡ false → length (names s k) < most k → declares line s k xs ≡ Ok (declared s k (record { spelt = x; line = line; word = 2 }))
+      pub put : is_some (found x (names s k)) ≡ false → length (names s k) < most k → declares line s k xs ≡ Ok (declared s k (record { spelt = x; line = line; word = 2 }))
       unfolding new_name
       put f l = then_new ∙ rw (e, f, lt-ltb (length (names s k)) (most k) l)
 
@@ -50,9 +52,9 @@ module _ (line w last : ℕ) (s : Contents) (k : Kind) (xs : List (List ℕ)) (o
     d_no_name e q = no_name line s k xs (omega arith) e (second ∙ q)
 
     module _ (u : Unit {0}) (ok : r ≡ Ok u) (x : List ℕ) (rest : List (List ℕ)) (e : xs ≡ x ∷ rest) (wl ww : ℕ) (wle : wl ≡ line) (wwe : ww ≡ w + 1)
-        (ws : List Word) (nse : map spelt ws ≡ names s k) (f : Option ℕ) (fe : f ≡ found 0 x (map spelt ws)) (some : Bool) (se : some ≡ is_some f) where
-      known : some ≡ is_some (found 0 x (names s k))
-      known = se ∙ ap is_some (fe ∙ ap (found 0 x) nse)
+        (ws : List Word) (nse : map spelt ws ≡ names s k) (f : Option ℕ) (fe : f ≡ position (λ w. bytes_eq w.bytes.now x) ws) (some : Bool) (se : some ≡ is_some f) where
+      known : some ≡ is_some (found x (names s k))
+      known = se ∙ ap is_some (fe ∙ sym (found_spelt x ws) ∙ ap (found x) nse)
 
       many : length ws ≡ length (names s k)
       many = sym (length-map ws spelt) ∙ ap length nse
@@ -68,6 +70,3 @@ module _ (line w last : ℕ) (s : Contents) (k : Kind) (xs : List (List ℕ)) (o
           let c = many in
           put line s k xs (omega arith) u (second ∙ ok) x rest e (sym known ∙ h) (omega arith)
           ∙ ap Ok (sym (te ∙ ap (λ (l : ℕ). declared s k (record { spelt = x; line = l; word = ww })) wle ∙ ap (λ (v : ℕ). declared s k (record { spelt = x; line = line; word = v })) (wwe ∙ ap (λ (v : ℕ). v + 1) one)))
-
-      pub d_room : (m : ℕ) → m ≡ most k → length ws < m → length (names s k) < most k
-      d_room m me l = let c = many in omega arith

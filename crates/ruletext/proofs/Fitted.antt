@@ -1,5 +1,5 @@
 -- Every statement that a text gives is well formed: its fields number declared names.
-use Rattle.std.proofs.Common.{◌≡◌, ℕ, Bool, true, false, cond, eqb, ◌⊎◌, List, [], ◌∷◌, length, get_or, Some, None, Ok, Option, refl, ap, ◌∙◌, subst, inl, inr, arith}
+use Rattle.std.proofs.Common.{◌≡◌, ℕ, Bool, true, false, cond, eqb, List, [], ◌∷◌, length, get_or, Some, None, Ok, Option, refl, ap, ◌∙◌, subst, arith}
 use Rattle.std.proofs.lemmas.Bool.{eqb-true, and_from}
 use Rattle.rules.specs.Fits.{count, FieldFits, FormFits, WellFormed, all_fit}
 use Rattle.rules.specs.Formed.{formed_fits}
@@ -13,92 +13,39 @@ use Rattle.ruletext.specs.Outcome.{Contents, names, by_text}
 use Rattle.ruletext.specs.Laws.{EachWith, FieldsCalled, StatedIn}
 use Rattle.ruletext.proofs.Accepted.{orderly}
 
--- One line of the table of letters.
-pick : (letter code : ℕ) (y x : Statement) (rest : Option Statement) → cond (eqb letter code) (Some y) rest ≡ Some x → ((letter ≡ code) × (y ≡ x)) ⊎ (rest ≡ Some x)
-pick letter code y x rest h = by (eqb letter code) refl h where
-  by : (b : Bool) → eqb letter code ≡ b → cond b (Some y) rest ≡ Some x → ((letter ≡ code) × (y ≡ x)) ⊎ (rest ≡ Some x)
-  by true e q = inl (eqb-true letter code e, cc)
-  by false e q = inr q
-
 -- Fields that fit the form of a letter give a well-formed statement.
 module _ (n k r letter x y z : ℕ) (t : Statement) (fit : FormFits n k r (fields_of_form letter) (three x y z)) where
-  at_code : (code : ℕ) → letter ≡ code → FormFits n k r (fields_of_form code) (three x y z)
-  at_code code e = subst (λ (c : ℕ). FormFits n k r (fields_of_form c) (three x y z)) e fit
-
-  told : (code : ℕ) (u : Statement) → (FormFits n k r (fields_of_form code) (three x y z) → WellFormed n k r u) → (letter ≡ code) × (u ≡ t) → WellFormed n k r t
-  told code u f p = subst (WellFormed n k r) p.1 (f (at_code code p.0))
+  -- One line of the table of letters, by what the lines after it give.
+  row : (code : ℕ) (u : Statement) → (FormFits n k r (fields_of_form code) (three x y z) → WellFormed n k r u) → {rest : Option Statement} → (rest ≡ Some t → WellFormed n k r t)
+      → cond (eqb letter code) (Some u) rest ≡ Some t → WellFormed n k r t
+  row code u f {rest} more h = by (eqb letter code) refl h where
+    by : (b : Bool) → eqb letter code ≡ b → cond b (Some u) rest ≡ Some t → WellFormed n k r t
+    by true e q =
+        let here : FormFits n k r (fields_of_form code) (three x y z) = subst (λ (c : ℕ). FormFits n k r (fields_of_form c) (three x y z)) (eqb-true letter code e) fit in
+        let same : u ≡ t = cc in
+        subst (WellFormed n k r) same (f here)
+    by false e q = more q
 
   pub formed_by_letter : statement_of letter x y z ≡ Some t → WellFormed n k r t
-  formed_by_letter h0 =
-      elim (pick letter 97 (s.Member x y) t _ h0) [
-        | inl p ↦ told 97 (s.Member x y) (λ f. (f.0, f.1, refl)) p
-        | inr h1 ↦
-            elim (pick letter 98 (s.Related x y z) t _ h1) [
-              | inl p ↦ told 98 (s.Related x y z) (λ f. f) p
-              | inr h2 ↦
-                  elim (pick letter 99 (s.Empty x) t _ h2) [
-                    | inl p ↦ told 99 (s.Empty x) (λ f. (f.0, refl, refl)) p
-                    | inr h3 ↦
-                        elim (pick letter 100 (s.Universal x) t _ h3) [
-                          | inl p ↦ told 100 (s.Universal x) (λ f. (f.0, refl, refl)) p
-                          | inr h4 ↦
-                              elim (pick letter 101 (s.Only x y) t _ h4) [
-                                | inl p ↦ told 101 (s.Only x y) (λ f. (f.0, f.1, refl)) p
-                                | inr h5 ↦
-                                    elim (pick letter 102 (s.Nominal x y) t _ h5) [
-                                      | inl p ↦ told 102 (s.Nominal x y) (λ f. (f.0, f.1, refl)) p
-                                      | inr h6 ↦
-                                          elim (pick letter 103 (s.Subclass x y) t _ h6) [
-                                            | inl p ↦ told 103 (s.Subclass x y) (λ f. (f.0, f.1, refl)) p
-                                            | inr h7 ↦
-                                                elim (pick letter 104 (s.Both x y z) t _ h7) [
-                                                  | inl p ↦ told 104 (s.Both x y z) (λ f. f) p
-                                                  | inr h8 ↦
-                                                      elim (pick letter 105 (s.Reaches x y z) t _ h8) [
-                                                        | inl p ↦ told 105 (s.Reaches x y z) (λ f. f) p
-                                                        | inr h9 ↦
-                                                            elim (pick letter 106 (s.Requires x y z) t _ h9) [
-                                                              | inl p ↦ told 106 (s.Requires x y z) (λ f. f) p
-                                                              | inr h10 ↦
-                                                                  elim (pick letter 107 (s.SelfWithin x y) t _ h10) [
-                                                                    | inl p ↦ told 107 (s.SelfWithin x y) (λ f. (f.0, f.1, refl)) p
-                                                                    | inr h11 ↦
-                                                                        elim (pick letter 108 (s.SelfPaired x y) t _ h11) [
-                                                                          | inl p ↦ told 108 (s.SelfPaired x y) (λ f. (f.0, f.1, refl)) p
-                                                                          | inr h12 ↦
-                                                                              elim (pick letter 109 (s.Subrole x y) t _ h12) [
-                                                                                | inl p ↦ told 109 (s.Subrole x y) (λ f. (f.0, f.1, refl)) p
-                                                                                | inr h13 ↦
-                                                                                    elim (pick letter 110 (s.Chain x y z) t _ h13) [
-                                                                                      | inl p ↦ told 110 (s.Chain x y z) (λ f. f) p
-                                                                                      | inr h14 ↦
-                                                                                          elim (pick letter 111 (s.RoleBoth x y z) t _ h14) [
-                                                                                            | inl p ↦ told 111 (s.RoleBoth x y z) (λ f. f) p
-                                                                                            | inr h15 ↦
-                                                                                                elim (pick letter 112 (s.Product x y z) t _ h15) [
-                                                                                                  | inl p ↦ told 112 (s.Product x y z) (λ f. f) p
-                                                                                                  | inr h16 ↦
-                                                                                                      elim (pick letter 113 (s.DomainRange x y z) t _ h16) [
-                                                                                                        | inl p ↦ told 113 (s.DomainRange x y z) (λ f. f) p
-                                                                                                        | inr h17 ↦
-                                                                                                            let w : ◌≡◌ {A = ℕ} 0 1 = cc in absurd (omega arith)
-                                                                                                      ]
-                                                                                                ]
-                                                                                          ]
-                                                                                    ]
-                                                                              ]
-                                                                        ]
-                                                                  ]
-                                                            ]
-                                                      ]
-                                                ]
-                                          ]
-                                    ]
-                              ]
-                        ]
-                  ]
-            ]
-      ]
+  formed_by_letter =
+      row 97 (s.Member x y) (λ f. (f.0, f.1, refl))
+      (row 98 (s.Related x y z) (λ f. f)
+      (row 99 (s.Empty x) (λ f. (f.0, refl, refl))
+      (row 100 (s.Universal x) (λ f. (f.0, refl, refl))
+      (row 101 (s.Only x y) (λ f. (f.0, f.1, refl))
+      (row 102 (s.Nominal x y) (λ f. (f.0, f.1, refl))
+      (row 103 (s.Subclass x y) (λ f. (f.0, f.1, refl))
+      (row 104 (s.Both x y z) (λ f. f)
+      (row 105 (s.Reaches x y z) (λ f. f)
+      (row 106 (s.Requires x y z) (λ f. f)
+      (row 107 (s.SelfWithin x y) (λ f. (f.0, f.1, refl))
+      (row 108 (s.SelfPaired x y) (λ f. (f.0, f.1, refl))
+      (row 109 (s.Subrole x y) (λ f. (f.0, f.1, refl))
+      (row 110 (s.Chain x y z) (λ f. f)
+      (row 111 (s.RoleBoth x y z) (λ f. f)
+      (row 112 (s.Product x y z) (λ f. f)
+      (row 113 (s.DomainRange x y z) (λ f. f)
+      (λ h. let w : ◌≡◌ {A = ℕ} 0 1 = cc in absurd (omega arith))))))))))))))))))
 
 -- The counts of what was read.
 module _ (c : Contents) where

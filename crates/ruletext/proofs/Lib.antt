@@ -1,3 +1,4 @@
+pub mod Given
 pub mod Finds
 pub mod Puts
 pub mod Checked
@@ -6,7 +7,6 @@ pub mod Declared
 pub mod States
 pub mod Lined
 pub mod Accepted
-pub mod Judged
 pub mod Fitted
 pub mod One
 pub mod Admitted

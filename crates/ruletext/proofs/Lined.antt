@@ -79,18 +79,14 @@ module _ (all : Result Contents Refusal) (n : ℕ) (s : Contents) (left : List (
     unfolding by_lines
     r_step = inv ∙ ap (by_lines (n + 1) s) cut ∙ ap (λ (v : ℕ). then (by_line v s here) (λ t. by_lines (v + 1) t later)) (sym me)
 
-    pub r_more : (t : Contents) → by_line m s here ≡ Ok t → all ≡ by_lines (m + 1) t later
-    r_more t e = r_step ∙ ap (λ (r : Result Contents Refusal). then r (λ t. by_lines (m + 1) t later)) e
+    pub r_more : (t : Contents) → by_line m s here ≡ Ok t → (v : ℕ) → v ≡ n + 1 → all ≡ by_lines (v + 1) t later
+    r_more t e v ve = r_step ∙ ap (λ (r : Result Contents Refusal). then r (λ t. by_lines (m + 1) t later)) e ∙ ap (λ (u : ℕ). by_lines (u + 1) t later) (me ∙ sym ve)
 
     pub r_refused : (e : Refusal) → by_line m s here ≡ Err e → then all counted ≡ Err e
     r_refused e d = ap (λ (r : Result Contents Refusal). then r counted) (r_step ∙ ap (λ (r : Result Contents Refusal). then r (λ t. by_lines (m + 1) t later)) d)
 
 pub r_last : (all : Result Contents Refusal) (s : Contents) → all ≡ Ok s → (o : Result Contents Refusal) → counted s ≡ o → then all counted ≡ o
 r_last all s e o h = ap (λ (r : Result Contents Refusal). then r counted) e ∙ h
-
--- Before the first line nothing has been read.
-pub r_start : (s : Contents) → s ≡ nothing → (text : List ℕ) (left : List (List ℕ)) → left ≡ lines text → (n : ℕ) → n ≡ 0 → by_lines 1 nothing (lines text) ≡ by_lines (n + 1) s left
-r_start s se text left te n ne = rw (se, te, ne) refl
 
 -- The counts at the end.
 module _ (s : Contents) (i c r n : ℕ) (ie : i ≡ length s.individuals) (ce : c ≡ length s.classes) (re : r ≡ length s.roles) (ne : n ≡ length s.statements) where
@@ -107,10 +103,3 @@ module _ (s : Contents) (i c r n : ℕ) (ie : i ≡ length s.individuals) (ce : 
 
 pub long : (ws : List Word) (n m : ℕ) → n ≡ m → m ≡ length ws → n ≡ length (map spelt ws)
 long ws n m e h = e ∙ h ∙ sym (length-map ws spelt)
-
--- No kind has more than 256 names.
-pub few_names : (is cs rs : List Word) (ss : List Statement) (ls : List ℕ) → length is ≤ 128 → length cs ≤ 256 → length rs ≤ 32
-    → (k : Kind) → length (names (record { individuals = map spelt is; classes = map spelt cs; roles = map spelt rs; statements = ss; lines = ls }) k) ≤ 256
-few_names is cs rs ss ls i c r Individual = rw (length-map is spelt) (omega arith)
-few_names is cs rs ss ls i c r Class = rw (length-map cs spelt) c
-few_names is cs rs ss ls i c r Role = rw (length-map rs spelt) (omega arith)

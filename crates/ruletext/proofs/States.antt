@@ -7,6 +7,8 @@ use Rattle.rules.specs.declared.statements.Statement.{Statement}
 use Rattle.rules.specs.declared.forms.Kind.{Kind}
 use Rattle.rules.specs.Forms.{used}
 use Rattle.rules.specs.Statements.{statement_of}
+use Rattle.std.specs.Option.{ok_or}
+use Rattle.ruletext.proofs.Given.{known_is}
 use Rattle.ruletext.specs.Outcome.{Contents, all_names, numbers, stating, then, known}
 
 -- A field that is read, and one that is refused, whatever follows.
@@ -64,8 +66,5 @@ module _ (line w last : ℕ) (s : Contents) (letter : ℕ) (i j k : Option Kind)
           by = rw (eq-eqb (length xs) (used (i ∷ j ∷ k ∷ [])) (omega arith), second, ok, numbered, h)
               (ap (λ (p : Option Statement). known p (at because.UnknownLetter line 1)) (sym oe))
 
-          pub s_unknown : o ≡ None → (q : Refusal) → q ≡ at because.UnknownLetter line 1 → Err q ≡ stating line s letter (i ∷ j ∷ k ∷ []) xs
-          s_unknown e q qe = sym (by ∙ rw e (ap Err (sym qe)))
-
-          pub s_good : (n : Statement) → o ≡ Some n → Ok n ≡ stating line s letter (i ∷ j ∷ k ∷ []) xs
-          s_good n e = sym (by ∙ rw e refl)
+          pub s_new : (q : Refusal) → q ≡ at because.UnknownLetter line 1 → (r : Result Statement Refusal) → r ≡ ok_or o q → r ≡ stating line s letter (i ∷ j ∷ k ∷ []) xs
+          s_new q qe r re = re ∙ ap (ok_or o) qe ∙ known_is o (at because.UnknownLetter line 1) ∙ sym by

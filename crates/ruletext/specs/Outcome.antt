@@ -10,7 +10,7 @@
 --   6  the name is not declared above                      the line, that word
 --   8  one name or statement too many                      the line, word 1
 --   8  too few names at the end                            line 0, word 0
-use Rattle.std.specs.Prelude.{ℕ, ◌+◌, Bool, true, false, cond, List, [], ◌∷◌, ◌++◌, length, is_some, Some, None, Ok, Err, Option, Result, ◌==◌, nat_lt, slice_index}
+use Rattle.std.specs.Prelude.{ℕ, ◌+◌, Bool, true, false, cond, List, [], ◌∷◌, ◌++◌, length, is_some, position, Some, None, Ok, Err, Option, Result, ◌==◌, nat_lt, slice_index}
 use Rattle.std.specs.Str.{bytes_eq}
 use Rattle.rules.specs.Forms.{FieldKinds, fields_of_form, in_order, used}
 use Rattle.rules.specs.Limits.{most, most_statements, within_limits}
@@ -55,10 +55,9 @@ declared s k.Role name = record { individuals = s.individuals; classes = s.class
 abbrev pub added : Contents → Statement → ℕ → Contents
 added s x line = record { individuals = s.individuals; classes = s.classes; roles = s.roles; statements = s.statements ++ x ∷ []; lines = s.lines ++ line ∷ [] }
 
--- The place of a name among some, the first being i.
-unfoldable pub found : ℕ → List ℕ → List Name → Option ℕ
-found i x [] = None
-found i x (y ∷ ys) = cond (bytes_eq y.spelt x) (Some i) (found (i + 1) x ys)
+-- The place of a name among some.
+abbrev pub found : List ℕ → List Name → Option ℕ
+found x ns = position (λ y. bytes_eq y.spelt x) ns
 
 -- Where the test is passed, what follows; else the refusal.
 abbrev pub check : {X : Type 0} → Bool → Refusal → Result X Refusal → Result X Refusal
@@ -86,13 +85,13 @@ numbers line w s [] xs = Ok []
 numbers line w s (None ∷ ks) xs = then (numbers line w s ks xs) (λ is. Ok (0 ∷ is))
 numbers line w s (Some k ∷ ks) [] = Err (at because.WrongWordCount line 1)
 numbers line w s (Some k ∷ ks) (x ∷ xs) =
-    then (known (found 0 x (names s k)) (at because.NotDeclared line w)) (λ i. then (numbers line (w + 1) s ks xs) (λ is. Ok (i ∷ is)))
+    then (known (found x (names s k)) (at because.NotDeclared line w)) (λ i. then (numbers line (w + 1) s ks xs) (λ is. Ok (i ∷ is)))
 
 -- A name that is declared anew.
 unfoldable pub new_name : ℕ → Contents → Kind → List (List ℕ) → Result Contents Refusal
 new_name line s k [] = Err (at because.WrongWordCount line 1)
 new_name line s k (x ∷ xs) =
-    check (cond (is_some (found 0 x (names s k))) false true) (at because.DeclaredBefore line 2)
+    check (cond (is_some (found x (names s k))) false true) (at because.DeclaredBefore line 2)
     (check (nat_lt (length (names s k)) (most k)) (at because.CountOutOfLimits line 1)
     (Ok (declared s k (record { spelt = x; line = line; word = 2 }))))
 

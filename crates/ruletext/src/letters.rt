@@ -1,31 +1,28 @@
 // What the first word of a line says, and how many words come after it.
 ghost use Rattle.std.specs.Prelude.{◌≡◌, ℕ, ◌+◌, List, [], ◌∷◌};
 ghost use Rattle.rules.specs.Forms.{used as usedOf};
-ghost use Rattle.rules.specs.Refusals.{refusal};
 ghost use Rattle.ruletext.specs.Outcome.{declared_kind, only_letter};
 
+use reader::reader::Line;
 use rules::forms::Kind;
-use rules::refusals::{Reason, Refusal};
 use rules::three::Three;
 
-pub(crate) fn refused_at(reason: Reason, line: usize, word: usize) -> Refusal
-    ensures { result ≡ refusal reason line word }
-{
-    Refusal {
-        reason,
-        place: line,
-        item: word,
-    }
+// A line that begins with a letter, and what is left of it after that word.
+#[derive(Clone, Copy)]
+pub(crate) struct Lettered<'a> {
+    pub(crate) letter: char,
+    pub(crate) rest: Line<'a>,
+    ghost second: { rest.word ≡ 1 },
 }
 
 // The letter of a word that is one letter.
 pub(crate) fn letter_of(word: &[u8]) -> Option<char>
     ensures { result ≡ only_letter word.now }
 {
-    if word.len() != 1 {
+    let [letter] = word else {
         return None;
-    }
-    Some(char::from(word[0]))
+    };
+    Some(char::from(*letter))
 }
 
 // The kind of name that a letter declares.
@@ -40,19 +37,11 @@ pub(crate) fn kind_of(letter: char) -> Option<Kind>
     }
 }
 
-// One for a field in use.
-fn in_use(kind: Option<Kind>) -> usize
-    ensures { result ≡ usedOf (kind ∷ []) }
-{
-    match kind {
-        Some(_) => 1,
-        None => 0,
-    }
-}
-
 // How many fields a form has.
 pub(crate) fn used(kinds: Three<Option<Kind>>) -> usize
     ensures { result ≡ usedOf (kinds.first ∷ kinds.second ∷ kinds.third ∷ []) }
 {
-    in_use(kinds.first) + in_use(kinds.second) + in_use(kinds.third)
+    usize::from(kinds.first.is_some())
+        + usize::from(kinds.second.is_some())
+        + usize::from(kinds.third.is_some())
 }

@@ -1,5 +1,6 @@
 // From a whole text to its rules, line by line.
-ghost use Rattle.std.specs.Prelude.{◌≡◌, ℕ, ◌+◌, ◌<◌, true, List, [], ◌∷◌, map, length, IfOk, Ok, Err, Option as MayBe, MatchResult, OnOk};
+ghost use Rattle.std.specs.Prelude.{◌≡◌, ℕ, ◌+◌, ◌<◌, true, List, [], ◌∷◌, map, length, position, IfOk, Ok, Err, Option as MayBe, MatchResult, OnOk};
+ghost use Rattle.std.specs.Str.{bytes_eq};
 ghost use Rattle.rules.specs.declared.forms.Kind.{Kind as KindOf};
 ghost use Rattle.rules.specs.Forms.{in_order};
 ghost use Rattle.reader.specs.Text.{words};
@@ -12,11 +13,11 @@ ghost use Rattle.rules.specs.Fits.{all_fit};
 ghost use Rattle.ruletext.specs.Reading.{spelt, contents, Counted};
 ghost use Rattle.rules.specs.Limits.{most};
 
-use crate::letters::{kind_of, letter_of, refused_at, used};
+use crate::letters::{Lettered, kind_of, letter_of, used};
 use crate::text_rules::Rules;
 use crate::words::{check_names, last_word};
 use reader::letters::is_proper;
-use reader::reader::{Reader, Word};
+use reader::reader::{Line, Reader, Word};
 use roles::admissible::first_breaking;
 use rules::base::RuleBase;
 use rules::counts::Counts;
@@ -28,14 +29,9 @@ use std::alloc::{AllocError, Global};
 
 // The place of a name among those declared.
 fn find(names: &[Word<'_>], name: &[u8]) -> Option<usize>
-    ensures { result ≡ found 0 name.now (map spelt names.now) }
+    ensures { result ≡ position (λ word. bytes_eq word.bytes.now name.now) names.now }
 {
-    for i in 0..names.len() {
-        if names[i].bytes == name {
-            return Some(i);
-        }
-    }
-    None
+    names.iter().position(|word| word.bytes == name)
 }
 
 impl<'a> Rules<'a> {
@@ -61,115 +57,101 @@ impl<'a> Rules<'a> {
     }
 
     // The number of the next word as a field of some kind, or 0 for a field that is not in use.
-    fn field(&self, kind: Option<Kind>, line: &mut Reader<'a>) -> Result<u16, Refusal>
+    fn field(&self, kind: Option<Kind>, line: &mut Line<'a>) -> Result<u16, Refusal>
         ensures kept { line.new.line ≡ line.old.line }
         ensures cases { MatchResult result (λ i. (ks : List (MayBe KindOf)) → numbers line.old.line (line.old.word + 1) (contents self.now) (kind ∷ ks) (words line.old.here.now) ≡ then (numbers line.old.line (line.new.word + 1) (contents self.now) ks (words line.new.here.now)) (λ is. Ok (i ∷ is))) (λ e. (ks : List (MayBe KindOf)) → numbers line.old.line (line.old.word + 1) (contents self.now) (kind ∷ ks) (words line.old.here.now) ≡ Err e) }
     {
         let Some(kind) = kind else {
             return Ok(0);
         };
-        let Some(word) = line.next_word() else {
-            return Err(refused_at(Reason::WrongWordCount, line.line, 1));
-        };
-        let Some(place) = find(self.names(kind), word.bytes) else {
-            return Err(refused_at(Reason::NotDeclared, word.line, word.word));
-        };
+        let word = line
+            .next_word()
+            .ok_or(Reason::WrongWordCount.at(line.line, 1))?;
+        let place = find(self.names(kind), word.bytes).ok_or(Reason::NotDeclared.at(
+            word.line, word.word,
+        ))?;
         Ok(place as u16)
     }
 
     // The numbers of three fields, from the words that are left.
-    fn fields(
-        &self,
-        kinds: Three<Option<Kind>>,
-        mut line: Reader<'a>,
-    ) -> Result<(u16, u16, u16), Refusal>
-        ensures { MatchResult result (λ p. numbers line.entry.line (line.entry.word + 1) (contents self.now) (in_order kinds) (words line.entry.here.now) ≡ Ok (p.0 ∷ p.1 ∷ p.2 ∷ [])) (λ e. numbers line.entry.line (line.entry.word + 1) (contents self.now) (in_order kinds) (words line.entry.here.now) ≡ Err e) }
+    fn fields(&self, kinds: Three<Option<Kind>>, mut line: Line<'a>) -> Result<Three<u16>, Refusal>
+        ensures { MatchResult result (λ three. numbers line.entry.line (line.entry.word + 1) (contents self.now) (in_order kinds) (words line.entry.here.now) ≡ Ok (three.first ∷ three.second ∷ three.third ∷ [])) (λ e. numbers line.entry.line (line.entry.word + 1) (contents self.now) (in_order kinds) (words line.entry.here.now) ≡ Err e) }
     {
         let a = self.field(kinds.first, &mut line)?;
         let b = self.field(kinds.second, &mut line)?;
         let c = self.field(kinds.third, &mut line)?;
-        Ok((a, b, c))
+        Ok(Three::new(a, b, c))
     }
 
-    // A line that declares a name, after its first word.
-    fn declare(&mut self, kind: Kind, mut line: Reader<'a>) -> Result<(), Refusal>
-        requires second { line.word ≡ 1 }
-        ensures { MatchResult result (λ _. (declares line.entry.line (contents self.old) kind (words line.entry.here.now) ≡ Ok (contents self.new))) (λ e. declares line.entry.line (contents self.old) kind (words line.entry.here.now) ≡ Err e) }
+    // A line that declares a name.
+    fn declare(&mut self, kind: Kind, said: Lettered<'a>) -> Result<(), Refusal>
+        ensures { MatchResult result (λ _. (declares said.entry.rest.line (contents self.old) kind (words said.entry.rest.here.now) ≡ Ok (contents self.new))) (λ e. declares said.entry.rest.line (contents self.old) kind (words said.entry.rest.here.now) ≡ Err e) }
     {
+        let mut line = said.rest;
         if last_word(line) != 2 {
-            return Err(refused_at(Reason::WrongWordCount, line.line, 1));
+            return Err(Reason::WrongWordCount.at(line.line, 1));
         }
         check_names(line)?;
-        let Some(word) = line.next_word() else {
-            return Err(refused_at(Reason::WrongWordCount, line.line, 1));
-        };
+        let word = line
+            .next_word()
+            .ok_or(Reason::WrongWordCount.at(line.line, 1))?;
         let names = self.names(kind);
         if find(names, word.bytes).is_some() {
-            return Err(refused_at(Reason::DeclaredBefore, word.line, word.word));
+            return Err(Reason::DeclaredBefore.at(word.line, word.word));
         }
         if names.len() >= kind.limit() {
-            return Err(refused_at(Reason::CountOutOfLimits, word.line, 1));
+            return Err(Reason::CountOutOfLimits.at(word.line, 1));
         }
         self.put_name(kind, word);
         Ok(())
     }
 
-    // A line that states, after its first word: what it states.
-    fn stated(
-        &self,
-        letter: char,
-        kinds: Three<Option<Kind>>,
-        line: Reader<'a>,
-    ) -> Result<Statement, Refusal>
-        requires second { line.word ≡ 1 }
-        ensures { result ≡ stating line.entry.line (contents self.now) letter (in_order kinds) (words line.entry.here.now) }
+    // A line that states: what it states.
+    fn stated(&self, kinds: Three<Option<Kind>>, said: Lettered<'a>) -> Result<Statement, Refusal>
+        ensures { result ≡ stating said.entry.rest.line (contents self.now) said.entry.letter (in_order kinds) (words said.entry.rest.here.now) }
     {
+        let line = said.rest;
         if last_word(line) != used(kinds) + 1 {
-            return Err(refused_at(Reason::WrongWordCount, line.line, 1));
+            return Err(Reason::WrongWordCount.at(line.line, 1));
         }
         check_names(line)?;
-        let (a, b, c) = self.fields(kinds, line)?;
-        let Some(statement) = Statement::new(letter, a, b, c) else {
-            return Err(refused_at(Reason::UnknownLetter, line.line, 1));
-        };
-        Ok(statement)
+        let fields = self.fields(kinds, line)?;
+        Statement::new(said.letter, fields.first, fields.second, fields.third).ok_or(
+            Reason::UnknownLetter.at(line.line, 1),
+        )
     }
 
-    // A line with this letter, after its first word.
-    fn read_letter(&mut self, letter: char, line: Reader<'a>) -> Result<(), Refusal>
-        requires second { line.word ≡ 1 }
-        ensures { MatchResult result (λ _. (by_letter line.entry.line (contents self.old) letter (words line.entry.here.now) ≡ Ok (contents self.new))) (λ e. by_letter line.entry.line (contents self.old) letter (words line.entry.here.now) ≡ Err e) }
+    // A line by its letter.
+    fn read_letter(&mut self, said: Lettered<'a>) -> Result<(), Refusal>
+        ensures { MatchResult result (λ _. (by_letter said.entry.rest.line (contents self.old) said.entry.letter (words said.entry.rest.here.now) ≡ Ok (contents self.new))) (λ e. by_letter said.entry.rest.line (contents self.old) said.entry.letter (words said.entry.rest.here.now) ≡ Err e) }
     {
-        if let Some(kind) = kind_of(letter) {
-            return self.declare(kind, line);
+        if let Some(kind) = kind_of(said.letter) {
+            return self.declare(kind, said);
         }
-        let Some(kinds) = field_kinds(letter) else {
-            return Err(refused_at(Reason::UnknownLetter, line.line, 1));
-        };
-        let statement = self.stated(letter, kinds, line)?;
+        let line = said.rest.line;
+        let kinds = field_kinds(said.letter).ok_or(Reason::UnknownLetter.at(line, 1))?;
+        let statement = self.stated(kinds, said)?;
         if self.statements.len() >= 384 {
-            return Err(refused_at(Reason::CountOutOfLimits, line.line, 1));
+            return Err(Reason::CountOutOfLimits.at(line, 1));
         }
         self.statements.push_reserved(statement);
-        self.lines.push_reserved(line.line);
+        self.lines.push_reserved(line);
         Ok(())
     }
 
     // A line.
-    fn read_line(&mut self, mut line: Reader<'a>) -> Result<(), Refusal>
+    fn read_line(&mut self, mut line: Line<'a>) -> Result<(), Refusal>
         requires first { line.word ≡ 0 }
         ensures { MatchResult result (λ _. (by_line line.entry.line (contents self.old) line.entry.here.now ≡ Ok (contents self.new))) (λ e. by_line line.entry.line (contents self.old) line.entry.here.now ≡ Err e) }
     {
         if !is_proper(line.here) {
-            return Err(refused_at(Reason::ImproperLine, line.line, 1));
+            return Err(Reason::ImproperLine.at(line.line, 1));
         }
         let Some(word) = line.next_word() else {
             return Ok(());
         };
-        let Some(letter) = letter_of(word.bytes) else {
-            return Err(refused_at(Reason::UnknownLetter, line.line, 1));
-        };
-        self.read_letter(letter, line)
+        let letter = letter_of(word.bytes).ok_or(Reason::UnknownLetter.at(line.line, 1))?;
+        self.read_letter(Lettered { letter, rest: line })
     }
 
     // The counts of names and statements; a text with too few is refused.
@@ -215,14 +197,14 @@ impl<'a> Rules<'a> {
         self.lines.clear();
     }
 
-    // Reads the lines of a text where nothing has been read yet.
+    // Reads the lines of a text in place of what was read before.
     fn read_lines(&mut self, text: &'a [u8]) -> Result<Counts, Refusal>
-        requires { contents self.old ≡ nothing }
         ensures { MatchResult result (λ c. (by_text text.now ≡ Ok (contents self.new)) × Counted c (contents self.new)) (λ e. by_text text.now ≡ Err e) }
     {
+        self.clear();
         let mut reader = Reader::new(text);
-        while reader.next_line() {
-            self.read_line(reader)?;
+        while let Some(line) = reader.next_line() {
+            self.read_line(line)?;
         }
         self.counts()
     }
@@ -235,34 +217,32 @@ impl<'a> Rules<'a> {
         let base = RuleBase::new(counts, self.statements.as_slice());
         match first_breaking(&base) {
             None => Ok(()),
-            Some(place) => Err(refused_at(Reason::NotAdmissible, self.lines[place], 1)),
+            Some(place) => Err(Reason::NotAdmissible.at(self.lines[place], 1)),
         }
     }
 
-    // Reads a text where nothing has been read yet.
-    fn read_text(&mut self, text: &'a [u8]) -> Result<(), Refusal>
-        requires { contents self.old ≡ nothing }
-        ensures { MatchResult result (λ _. Means text.now (Ok (contents self.new))) (λ e. Means text.now (Err e)) }
+    // Reads a text in place of what was read before.
+    fn read_text(&mut self, text: &'a [u8]) -> Result<Counts, Refusal>
+        ensures { MatchResult result (λ c. Means text.now (Ok (contents self.new)) × Counted c (contents self.new)) (λ e. Means text.now (Err e)) }
     {
         let counts = self.read_lines(text)?;
-        self.admit(counts)
+        self.admit(counts)?;
+        Ok(counts)
     }
 
-    /// Reads a rule text in place of what was read before: its names and statements, or its one refusal, which leaves
-    /// nothing read.
-    pub fn read(&mut self, text: &'a [u8]) -> Result<(), Refusal>
+    /// Reads a rule text in place of what was read before: its names and statements, and answers their counts; or its one
+    /// refusal, which leaves nothing read.
+    pub fn read(&mut self, text: &'a [u8]) -> Result<Counts, Refusal>
         ensures exact { MatchResult result (λ _. Means text.now (Ok (contents self.new))) (λ e. Means text.now (Err e) × (contents self.new ≡ nothing)) }
+        ensures counts { IfOk result (λ c. Counted c (contents self.new)) }
         ensures one { OneOutcome text.now }
         ensures lines { LinesWhole text.now }
         ensures orderly { OnOk result (Orderly text.now (contents self.new)) }
     {
-        self.clear();
-        match self.read_text(text) {
-            Ok(()) => Ok(()),
-            Err(refusal) => {
-                self.clear();
-                Err(refusal)
-            }
+        let outcome = self.read_text(text);
+        if outcome.is_err() {
+            self.clear();
         }
+        outcome
     }
 }

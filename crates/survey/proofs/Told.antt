@@ -1,29 +1,15 @@
-use Rattle.std.proofs.Common.{◌≡◌, ℕ, List, length, Ok, Err, Result, sym, refl, ap, ◌∙◌, subst, arith}
+-- What is told of a text that is accepted: the facts of its own counts and statements.
+use Rattle.std.proofs.Common.{◌≡◌, ℕ, ◌<◌, List, length, Ok, Option, ◌∙◌, subst, arith}
 use native.Mathlib.Decide.{dec_lt}
-use Rattle.rules.specs.declared.refusals.Refusal.{Refusal}
-use Rattle.ruletext.specs.Outcome.{Contents, nothing, by_text}
-use Rattle.ruletext.specs.Verdicts.{Judged, Told, verdict, left_by}
-use Rattle.ruletext.specs.declared.verdict.Verdict.TheVariants as v
-use Rattle.ruletext.proofs.Accepted.{orderly}
+use Rattle.rules.specs.Fits.{if_passed, pass}
+use Rattle.rules.specs.declared.counts.Counts.{Counts}
+use Rattle.rules.specs.declared.statements.Statement.{Statement}
+use Rattle.ruletext.specs.Outcome.{Contents, by_text}
+use Rattle.ruletext.specs.Reading.{Counted}
+use Rattle.ruletext.specs.Verdicts.{Judged}
 use Rattle.ruletext.proofs.Fitted.{text_fits}
-use Rattle.survey.specs.Surveys.{Fitting}
-
--- What a verdict says of the outcome.
-record ReadAs (o : Result Contents Refusal) (i c r n : ℕ) : Type 0 where
-  pub contents : Contents
-  pub is : o ≡ Ok contents
-  pub individuals : i ≡ length contents.individuals
-  pub classes : c ≡ length contents.classes
-  pub roles : r ≡ length contents.roles
-  pub statements : n ≡ length contents.statements
-
-read_as : (o : Result Contents Refusal) (i c r n : ℕ) → v.Read i c r n ≡ verdict o → ReadAs o i c r n
-read_as (Ok s) i c r n h = record { contents = s; is = refl; individuals = cc; classes = cc; roles = cc; statements = cc }
-read_as (Err e) i c r n h = let z : ◌≡◌ {A = ℕ} 0 1 = cc in absurd (omega arith)
-
-refused_as : (o : Result Contents Refusal) (e : Refusal) → v.Refused e ≡ verdict o → o ≡ Err e
-refused_as (Ok s) e h = let z : ◌≡◌ {A = ℕ} 0 1 = cc in absurd (omega arith)
-refused_as (Err d) e h = let q : d ≡ e = cc in ap Err q
+use Rattle.ruletext.proofs.Admitted.{base_is, fit_counted}
+use Rattle.survey.specs.Facts.{FactsCounted, FactsOf}
 
 judged_text : (input : List ℕ) (s : Contents) → Judged input (Ok s) → by_text input ≡ Ok s
 judged_text input s j = elim (dec_lt 16384 (length input)) [
@@ -31,30 +17,14 @@ judged_text input s j = elim (dec_lt 16384 (length input)) [
   | no l ↦ (j.text (omega arith)).0
 ]
 
-pub told_refused : (input : List ℕ) (e : Refusal) (after : Contents) → Told input (v.Refused e) after → Judged input (Err e) × (after ≡ nothing)
-told_refused input e after t =
-    let q = refused_as t.outcome e t.value in
-    (subst (Judged input) q t.judged, t.left ∙ ap left_by q)
-
-pub record Counts (input : List ℕ) (i c r n : ℕ) (after : Contents) : Type 0 where
-  pub judged : Judged input (Ok after)
-  pub individuals : i ≡ length after.individuals
-  pub classes : c ≡ length after.classes
-  pub roles : r ≡ length after.roles
-  pub statements : n ≡ length after.statements
-  pub fitting : Fitting after
-
-pub told_read : (input : List ℕ) (i c r n : ℕ) (after : Contents) → Told input (v.Read i c r n) after → Counts input i c r n after
-told_read input i c r n after t =
-    let q = read_as t.outcome i c r n t.value in
-    let same : after ≡ q.contents = t.left ∙ ap left_by q.is in
-    let j : Judged input (Ok q.contents) = subst (Judged input) q.is t.judged in
-    let by = judged_text input q.contents j in
-    subst (Counts input i c r n) (sym same) (record {
-      judged = j;
-      individuals = q.individuals;
-      classes = q.classes;
-      roles = q.roles;
-      statements = q.statements;
-      fitting = record { within = (orderly input q.contents by).counts; fitting = text_fits input q.contents by };
-    })
+-- The counts and the statements of the base, n, k, r and ts, are those that were read.
+pub facts_told : (input : List ℕ) (s : Contents) → Judged input (Ok s) → (c : Counts) → Counted c s → (us ts : List Statement) → us ≡ s.statements
+    → ts ≡ if_passed (pass c.individuals c.classes c.roles c.statements us) us → (n k r : ℕ) → n ≡ c.individuals → k ≡ c.classes → r ≡ c.roles
+    → (before slots : List (Option ℕ)) (o : Option ℕ) → FactsCounted n k r ts before slots o → FactsOf s before slots o
+facts_told input s j c h us ts ue te n k r ne ke re before slots o f =
+    let fit = fit_counted c s h (text_fits input s (judged_text input s j)) in
+    let same : ts ≡ s.statements = base_is c.individuals c.classes c.roles c.statements s.statements us ts ue te h.statements fit in
+    subst (λ (x : ℕ). FactsCounted x (length s.classes) (length s.roles) s.statements before slots o) (ne ∙ h.individuals)
+    (subst (λ (x : ℕ). FactsCounted n x (length s.roles) s.statements before slots o) (ke ∙ h.classes)
+    (subst (λ (x : ℕ). FactsCounted n k x s.statements before slots o) (re ∙ h.roles)
+    (subst (λ (xs : List Statement). FactsCounted n k r xs before slots o) same f)))

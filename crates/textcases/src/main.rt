@@ -1,36 +1,19 @@
 // Many rule texts in one input, parted by the byte 1E: prints what the program tells of each, a line a text.
 #![tactic(auto)]
 
-ghost use Rattle.std.specs.Prelude.{◌≤◌, length};
-
 use ruletext::text_rules::Rules;
 use std::io;
 use std::io::Read;
 use survey::report::tell;
 
-// Where the first text ends.
-fn end_of_text(input: &[u8]) -> usize
-    ensures { result ≤ length input.now }
-{
-    for (i, b) in input.iter().enumerate() {
-        if *b == 0x1e {
-            return i;
-        }
-    }
-    input.len()
-}
-
+// Tells of the first 999 texts, a line each.
 fn tell_each(rt: &HostRuntime, slots: &mut [Option<u64>], input: &[u8]) -> io::Result<()> {
     let mut rules = Rules::new(rt.alloc())?;
-    let mut rest = input;
-    for number in 1..1000 {
-        let (text, more) = rest.split_at(end_of_text(rest));
-        let survey = tell(&mut rules, slots, text);
-        println!(rt; "{number} {survey}")?;
-        let [_, after @ ..] = more else {
-            break;
-        };
-        rest = after;
+    for (number, text) in (1..1000).zip(input.split(|b| *b == 0x1e)) {
+        match tell(&mut rules, slots, text) {
+            Ok(survey) => println!(rt; "{number} {survey}")?,
+            Err(no_survey) => println!(rt; "{number} {no_survey}")?,
+        }
     }
     Ok(())
 }

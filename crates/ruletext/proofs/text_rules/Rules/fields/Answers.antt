@@ -21,4 +21,4 @@ returns-in_err-c c =
     rw (p.1, p.2) (third_refused c.args.line.line (contents c.args.self.now) c.args.kinds.first c.args.kinds.second c.args.kinds.third (c.args.line.word + 1) (words c.args.line.here.now) _ _ c.in_ok-a.a c.in_ok-a.ensures.cases _ c.in_ok-a.ensures.kept _ _ c.in_ok-b.b c.in_ok-b.ensures.cases _ c.in_ok-b.ensures.kept c.in_err-c.field-0.0 c.in_err-c.ensures.cases)
 
 pub returns : goal.returns
-returns c = all_read c.args.line.line (contents c.args.self.now) c.args.kinds.first c.args.kinds.second c.args.kinds.third (c.args.line.word + 1) (words c.args.line.here.now) _ _ c.in_ok-a.a c.in_ok-a.ensures.cases _ c.in_ok-a.ensures.kept _ _ c.in_ok-b.b c.in_ok-b.ensures.cases _ c.in_ok-b.ensures.kept _ _ c.in_ok-c.c c.in_ok-c.ensures.cases
+returns c = rw c.new.ensures (all_read c.args.line.line (contents c.args.self.now) c.args.kinds.first c.args.kinds.second c.args.kinds.third (c.args.line.word + 1) (words c.args.line.here.now) _ _ c.in_ok-a.a c.in_ok-a.ensures.cases _ c.in_ok-a.ensures.kept _ _ c.in_ok-b.b c.in_ok-b.ensures.cases _ c.in_ok-b.ensures.kept _ _ c.in_ok-c.c c.in_ok-c.ensures.cases)

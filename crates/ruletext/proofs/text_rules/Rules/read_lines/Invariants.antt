@@ -5,8 +5,8 @@ use Rattle.ruletext.specs.Reading.{contents}
 use Rattle.reader.specs.Reading.{lines_left}
 use Rattle.ruletext.proofs.text_rules.Rules.read_lines.Given as goal
 
-abbrev pub invariant-loop-reader : goal.invariant-loop-reader
-invariant-loop-reader l = by_lines 1 nothing (lines l.text) ≡ by_lines (l.reader.line + 1) (contents l.self) (lines_left l.reader)
+abbrev pub invariant-loop-line : goal.invariant-loop-line
+invariant-loop-line l = by_lines 1 nothing (lines l.text) ≡ by_lines (l.reader.line + 1) (contents l.self) (lines_left l.reader)
 
-abbrev pub decreases-loop-reader : goal.decreases-loop-reader
-decreases-loop-reader l = length (lines_left l.reader)
+abbrev pub decreases-loop-line : goal.decreases-loop-line
+decreases-loop-line l = length (lines_left l.reader)
