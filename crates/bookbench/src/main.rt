@@ -66,13 +66,9 @@ fn statement(plan: Plan, place: u16) -> Option<Statement> {
 }
 
 fn statements(heap: Global, plan: Plan) -> Result<Vec<Statement>, AllocError> {
-    let mut all = Vec::new(heap);
-    for place in 0..plan.statements {
-        if let Some(statement) = statement(plan, place) {
-            all.push(statement)?;
-        }
-    }
-    Ok(all)
+    (0..plan.statements)
+        .filter_map(|place| statement(plan, place))
+        .collect(heap)
 }
 
 // Marks in words that are cleared first.
@@ -82,7 +78,7 @@ fn in_words(rules: &BookRules, words: &mut [u64], most: u64) -> Option<Marked> {
     mark(rules, &mut table, most).ok()
 }
 
-// Marks in slots that are freed first.
+// Marks in slots that are freed first. Only the set-up of words may be refused, so one function for both would be no shorter.
 fn in_slots(rules: &BookRules, slots: &mut [Option<u64>], most: u64) -> Option<Marked> {
     let mut table = SlotTable::over(slots);
     table.set_up(rules.bound());
