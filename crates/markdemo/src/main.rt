@@ -68,7 +68,7 @@ fn in_words(graph: &Graph, words: &mut [u64], limit: u64, most: u64) -> Result<M
     Ok(mark(graph, &mut table, most)?)
 }
 
-// Marks what the graph reaches in slots that are freed first.
+// Marks what the graph reaches in slots that are freed first. It has fewer ways to be refused than in words, and so a function of its own.
 fn in_slots(
     graph: &Graph,
     slots: &mut [Option<u64>],
