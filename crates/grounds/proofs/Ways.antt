@@ -3,7 +3,7 @@ use mathlib.Core.Path.{◌≡◌, refl, sym, subst, ap, ap₂, ◌∙◌}
 use mathlib.Core.Bool.{Bool, false}
 use mathlib.Core.List.{List, []}
 use mathlib.Core.Logic.{inl, inr, ⊎_elim}
-use Prim.Native.Nat.{ℕ, ◌+◌, ◌-◌, ◌≤◌}
+use Prim.Native.Nat.{ℕ, ◌+◌, ◌≤◌}
 use native.Mathlib.Omega.{arith}
 use lib.ListN.{length}
 use Rattle.rules.specs.Limits.{most_statements}
@@ -91,7 +91,7 @@ module _ (n k r : ℕ) (ss : List Statement) (held : ℕ → Bool) where
   said_gives : (f : Fact) (w : Ground) (p : ℕ) (s : Statement) → At ss p s → SaidGives n k r held f w (key s) p (in_four (lines p s)) → G w f
   said_gives f w p s at h =
       let g = given_for n f w (key s) h.line in
-      let i = in_among (lines p s) (4 - length (lines p s)) h.among in
+      let i = in_among (lines p s) h.among in
       let o = sound n k ss H s (finish f) at i (fits_in (key s) h.line.pair g h.gives.0.0 h.gives.0.1) h.gives.0.2 h.gives.1 in
       subst (λ v. G v f) h.gives.3 (subst (λ t. G (ground_at n p h.line g) t) h.gives.2.0 o)
 
@@ -153,7 +153,7 @@ module _ (n k r : ℕ) (ss : List Statement) (held : ℕ → Bool) where
     statement = s;
     at = at;
     is = refl;
-    gives = inl (record { line = l; among = among_in (lines p s) (4 - length (lines p s)) i; gives = line_gives s p z i f m d ins });
+    gives = inl (record { line = l; among = among_in (lines p s) i; gives = line_gives s p z i f m d ins });
   }
   way_stated (alone l) e ins = absurd (e refl)
   way_stated (looped l m) e ins = absurd (e refl)
