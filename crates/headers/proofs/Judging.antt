@@ -9,14 +9,14 @@ use Rattle.headers.specs.Names.{lines, are_names}
 use Rattle.headers.specs.Bytes.{cut, even, all}
 use Rattle.headers.specs.Records.{is_record, records_refusal}
 use Rattle.std.proofs.lemmas.Bool.{and_parts}
-use Rattle.headers.specs.Header.{Header, are_records, records_in, content_refusal, judgement, holding, refuse, judged, of_parts, decode, contents, part, directory_refusal}
+use Rattle.headers.specs.Header.{are_records, records_in, content_refusal, judgement, holding, refuse, judged, of_parts, decode, contents, part, directory_refusal}
 use Rattle.headers.specs.Theorems.{Bytes}
 use Rattle.headers.specs.declared.header.Header.{Header as View}
 use Rattle.headers.specs.declared.header.Parts.{Parts}
 use Rattle.headers.specs.declared.header.Tally.{Tally}
-use Rattle.headers.specs.Views.{Cut, Held, Opened, Reads, holding_of, content_refusal_of, judgement_of}
+use Rattle.headers.specs.Views.{Cut, Held, Opened, Reads, holding_of, judgement_of}
 use Rattle.headers.proofs.Pieces.{length_records}
-use Rattle.headers.proofs.Backward.{one_file, accepted_proper, named_from}
+use Rattle.headers.proofs.Backward.{one_file, accepted_proper}
 use Rattle.headers.proofs.Spelling.{known_length}
 use Rattle.headers.proofs.Tests.{four_pass}
 
@@ -47,21 +47,8 @@ module _ (b : List ℕ) (p : Parts) (k : Cut b p) where
   over_parts : {X : Type 0} (f : List ℕ → List ℕ → List ℕ → List ℕ → X) → f (part b 0) (part b 1) (part b 2) (part b 3) ≡ f p.individuals.now p.classes.now p.roles.now p.statements.now
   over_parts f = rw (k.individuals, k.classes, k.roles, k.statements) refl
 
-  held_or : List ℕ → List ℕ → List ℕ → List ℕ → Result Header Refusal
-  held_or x c v s = refuse (content_refusal x c v s) (Ok (holding x c v s))
-
-  contents_are : contents b ≡ refuse (content_refusal_of p) (Ok (holding_of p))
-  unfolding held_or
-  contents_are = ap (λ o. refuse o (held_or (part b 0) (part b 1) (part b 2) (part b 3))) k.right ∙ over_parts held_or
-
-  pub content_refused : (e : Refusal) → content_refusal_of p ≡ Some e → contents b ≡ Err e
-  content_refused e h = contents_are ∙ ap (λ o. refuse o (Ok (holding_of p))) h
-
   decodes_parts : decode b ≡ of_parts p.individuals.now p.classes.now p.roles.now p.statements.now
   decodes_parts = ap (λ o. refuse o (of_parts (part b 0) (part b 1) (part b 2) (part b 3))) k.right ∙ over_parts of_parts
-
-  pub held_contents : (t : Tally) → Held p t → contents b ≡ Ok (holding_of p)
-  held_contents t h = contents_are ∙ ap (λ o. refuse o (Ok (holding_of p))) h.right
 
   pub held_decodes : (t : Tally) → Held p t → decode b ≡ refuse (judgement t.individuals t.classes t.roles t.statements (records_in p.statements.now)) (Ok (holding_of p))
   held_decodes t h =
@@ -70,14 +57,6 @@ module _ (b : List ℕ) (p : Parts) (k : Cut b p) where
 
 -- a view of a file
 module _ (b : List ℕ) (v : View) where
-  pub opened_from : Cut b v.parts → Held v.parts v.tally → Opened b v
-  opened_from k h = record {
-    is = held_contents b v.parts k v.tally h;
-    cut = k;
-    held = h;
-    named = named_from v.parts.individuals.now v.parts.classes.now v.parts.roles.now v.parts.statements.now h.right;
-  }
-
   module _ (o : Opened b v) where
     judged_is : decode b ≡ refuse (judgement_of v) (Ok (holding_of v.parts))
     judged_is = held_decodes b v.parts o.cut v.tally o.held
@@ -94,9 +73,6 @@ module _ (b : List ℕ) (v : View) where
         record { is = d; opened = o; proper = accepted_proper b (holding_of v.parts) d; whole = one_file b (holding_of v.parts) y d }
 
 -- a refusal of the contents is the header's
-pub directory_refused : (b : List ℕ) (e : Refusal) → directory_refusal b ≡ Some e → contents b ≡ Err e
-directory_refused b e h = ap (λ o. refuse o (refuse (content_refusal (part b 0) (part b 1) (part b 2) (part b 3)) (Ok (holding (part b 0) (part b 1) (part b 2) (part b 3))))) h
-
 two_stages : {X : Type 0} (o p q : Option Refusal) (t : Result X Refusal) (x : X) (e : Refusal) → refuse o (refuse p (Ok x)) ≡ Err e → refuse o (refuse p (refuse q t)) ≡ Err e
 two_stages (Some f) p q t x e h = let i : f ≡ e = cc in ap Err i
 two_stages None (Some f) q t x e h = let i : f ≡ e = cc in ap Err i

@@ -1,5 +1,5 @@
 -- Records and statements: a record whose fields fit gives a statement that is spelt like it.
-use Rattle.std.proofs.Common.{◌≡◌, ℕ, suc, ◌+◌, ◌<◌, Bool, true, false, cond, eqb, List, [], ◌∷◌, ◌++◌, map, length, is_some, Some, None, Option, sym, refl, ap, ◌∙◌, subst, inl, inr, arith}
+use Rattle.std.proofs.Common.{◌≡◌, ℕ, suc, ◌+◌, Bool, true, false, cond, eqb, List, [], ◌∷◌, ◌++◌, map, length, is_some, Some, None, Option, sym, refl, ap, ◌∙◌, subst, inl, inr}
 use borrow.Author.Tests.{both_ways}
 use Rattle.std.proofs.lemmas.Bool.{and_parts, eqb-true, cond-true, cond-false, cases_Bool}
 use Rattle.rules.specs.Forms.{FieldKinds, fields_of_form}
@@ -203,22 +203,3 @@ pub same_refusal : (n k r p : ℕ) (us : List Statement) → records_refusal n k
 unfolding wrong_in wrong_in_record
 same_refusal n k r p [] = refl
 same_refusal n k r p (u ∷ us) = ap (refuse_field p (wrong_in n k r u)) (same_refusal n k r (p + 1) us)
-
-pub letter_small : (u : Statement) → letter_of u < 256
-letter_small (s.Member x y) = omega arith
-letter_small (s.Related x y z) = omega arith
-letter_small (s.Empty x) = omega arith
-letter_small (s.Universal x) = omega arith
-letter_small (s.Only x y) = omega arith
-letter_small (s.Nominal x y) = omega arith
-letter_small (s.Subclass x y) = omega arith
-letter_small (s.Both x y z) = omega arith
-letter_small (s.Reaches x y z) = omega arith
-letter_small (s.Requires x y z) = omega arith
-letter_small (s.SelfWithin x y) = omega arith
-letter_small (s.SelfPaired x y) = omega arith
-letter_small (s.Subrole x y) = omega arith
-letter_small (s.Chain x y z) = omega arith
-letter_small (s.RoleBoth x y z) = omega arith
-letter_small (s.Product x y z) = omega arith
-letter_small (s.DomainRange x y z) = omega arith

@@ -50,7 +50,8 @@ fn put_names<N: AsSlice<u8>>(out: &mut [u8], at: usize, names: &[N]) -> usize
     to
 }
 
-// Writes names and statements as a header, and answers its length.
+// Writes names and statements as a header, and answers its length. It is apart from `write_header`, whose theorem would else be
+// due again at each of the returns.
 fn write_lists<N: AsSlice<u8>>(
     individuals: &[N],
     classes: &[N],

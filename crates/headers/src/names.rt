@@ -38,6 +38,7 @@ fn is_in(name: &[u8], part: &[u8]) -> bool
 pub(crate) fn count_names(part: &[u8]) -> Option<usize>
     ensures { MatchOption result (are_names part.now ≡ false) (λ n. (are_names part.now ≡ true) × (n ≡ length (lines part.now))) }
 {
+    // An iterator of lines would be no plainer: each name is looked for in what stands after it.
     let mut rest = part;
     let mut n = 0;
     while let Some((one, after)) = first_line(rest) {

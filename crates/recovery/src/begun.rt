@@ -10,6 +10,7 @@ use headers::output::{fits, lay};
 use rules::refusals::{Reason, Refusal};
 
 /// A begun recovery file on a lent output: where its next entry goes, and how long its header is.
+// The place is past 32 bits where there was no room: no Option is plainer, as each call has to look for room anyway.
 pub struct Begun<'a> {
     out: &'a mut [u8],
     at: usize,
