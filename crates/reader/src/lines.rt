@@ -69,7 +69,7 @@ fn first(text: &[u8], cut: u8) -> Option<usize>
     text.iter().position(|b| *b == cut)
 }
 
-// Where the first byte other than `cut` stands.
+// Where the first byte other than `cut` stands. One function over a test would ask for a contract longer than both.
 fn first_but(text: &[u8], cut: u8) -> Option<usize>
     ensures { result ≡ position (λ b. not (b == cut)) text.now }
 {

@@ -1,14 +1,9 @@
-use Rattle.std.proofs.Common.{◌≡◌, ℕ, zero, suc, ◌<◌, true, List, [], ◌∷◌, length, get_or, refl, ap, ◌∙◌, subst, arith}
+use Rattle.std.proofs.Common.{◌≡◌, ℕ, true, List, length, ap, ◌∙◌}
 use Rattle.rules.specs.Fits.{all_fit, if_passed, pass}
 use Rattle.rules.specs.Formed.{passed_kept}
 use Rattle.rules.specs.declared.counts.Counts.{Counts}
 use Rattle.rules.specs.declared.statements.Statement.{Statement}
-use Rattle.rules.specs.Refusals.{refusal as at}
-use Rattle.rules.specs.declared.refusals.Refusal.{Refusal}
-use Rattle.rules.specs.declared.refusals.Reason.TheVariants as because
-use Rattle.roles.specs.Roles.{FirstBreaking}
 use Rattle.ruletext.specs.Outcome.{Contents}
-use Rattle.ruletext.specs.Means.{BreaksAt}
 use Rattle.ruletext.specs.Reading.{Counted}
 
 -- The base has the statements that were read.

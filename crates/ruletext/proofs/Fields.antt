@@ -1,12 +1,11 @@
 use Rattle.rules.specs.Refusals.{refusal as at}
 use Rattle.rules.specs.declared.refusals.Reason.TheVariants as because
-use Rattle.std.proofs.Common.{◌≡◌, ℕ, ◌+◌, ◌<◌, ◌≤◌, Bool, true, false, cond, List, [], ◌∷◌, map, length, position, Some, None, Ok, Err, Option, sym, ap, ◌∙◌, arith}
+use Rattle.std.proofs.Common.{◌≡◌, ℕ, ◌+◌, List, [], ◌∷◌, map, position, Some, None, Ok, Err, Option, sym, ap, ◌∙◌}
 use Rattle.std.specs.Str.{bytes_eq}
 use Rattle.rules.specs.declared.forms.Kind.{Kind}
-use Rattle.ruletext.specs.Outcome.{Name, Contents, names, found, numbers, then}
+use Rattle.ruletext.specs.Outcome.{Contents, names, found, numbers, then}
 use Rattle.ruletext.specs.Reading.{spelt}
 use Rattle.ruletext.proofs.Finds.{found_spelt}
-use Rattle.std.proofs.lemmas.List.Quantifiers.{position-Some}
 use Rattle.reader.specs.declared.reader.Word.{Word}
 use Rattle.rules.specs.declared.refusals.Refusal.{Refusal}
 

@@ -1,5 +1,5 @@
 -- What a value that may be missing gave, or the refusal in its place.
-use Rattle.std.proofs.Common.{◌≡◌, Some, None, Ok, Err, Option, Result, refl}
+use Rattle.std.proofs.Common.{◌≡◌, Some, None, Ok, Err, Option, refl}
 use Rattle.std.specs.Option.{ok_or}
 use Rattle.rules.specs.declared.refusals.Refusal.{Refusal}
 use Rattle.ruletext.specs.Outcome.{known}

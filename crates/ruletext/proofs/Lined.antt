@@ -1,16 +1,15 @@
 use Rattle.rules.specs.Refusals.{refusal as at}
 use Rattle.rules.specs.declared.refusals.Reason.TheVariants as because
-use Rattle.std.proofs.Common.{◌≡◌, ℕ, ◌+◌, ◌<◌, ◌≤◌, Bool, true, false, ltb, List, [], ◌∷◌, ◌++◌, map, length, Some, None, Ok, Err, Option, Result, sym, refl, ap, ◌∙◌, arith}
+use Rattle.std.proofs.Common.{◌≡◌, ℕ, ◌+◌, ◌<◌, ◌≤◌, Bool, true, false, ltb, List, [], ◌∷◌, ◌++◌, map, length, Some, None, Ok, Err, Option, Result, sym, refl, ap, ◌∙◌}
 use lib.ListN.{length-map}
 use Rattle.std.proofs.lemmas.Bool.{lt-ltb, le-ltb}
 use Rattle.rules.specs.declared.refusals.Refusal.{Refusal}
 use Rattle.rules.specs.declared.statements.Statement.{Statement}
 use Rattle.rules.specs.declared.forms.Kind.{Kind}
-use Rattle.reader.specs.Text.{words, proper, lines}
+use Rattle.reader.specs.Text.{words, proper}
 use Rattle.rules.specs.Forms.{FieldKinds, fields_of_form, in_order}
 use Rattle.rules.specs.Limits.{most_statements, within_limits}
-use Rattle.rules.specs.declared.forms.Kind.TheVariants.{Individual, Class, Role}
-use Rattle.ruletext.specs.Outcome.{Contents, declares, declared_kind, stating, added, then, check, by_kind, by_form, by_letter, by_first, only_letter, by_line, by_lines, counted, nothing, names}
+use Rattle.ruletext.specs.Outcome.{Contents, declares, declared_kind, stating, added, then, check, by_kind, by_form, by_letter, by_first, only_letter, by_line, by_lines, counted}
 use Rattle.ruletext.specs.Reading.{spelt}
 use Rattle.reader.specs.declared.reader.Word.{Word}
 

@@ -1,5 +1,5 @@
 // What the first word of a line says, and how many words come after it.
-ghost use Rattle.std.specs.Prelude.{◌≡◌, ℕ, ◌+◌, List, [], ◌∷◌};
+ghost use Rattle.std.specs.Prelude.{◌≡◌, ◌+◌, [], ◌∷◌};
 ghost use Rattle.rules.specs.Forms.{used as usedOf};
 ghost use Rattle.ruletext.specs.Outcome.{declared_kind, only_letter};
 

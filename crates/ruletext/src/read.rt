@@ -1,10 +1,10 @@
 // From a whole text to its rules, line by line.
-ghost use Rattle.std.specs.Prelude.{◌≡◌, ℕ, ◌+◌, ◌<◌, true, List, [], ◌∷◌, map, length, position, IfOk, Ok, Err, Option as MayBe, MatchResult, OnOk};
+ghost use Rattle.std.specs.Prelude.{◌≡◌, ◌+◌, ◌<◌, true, List, [], ◌∷◌, map, length, position, IfOk, Ok, Err, Option as MayBe, MatchResult, OnOk};
 ghost use Rattle.std.specs.Str.{bytes_eq};
 ghost use Rattle.rules.specs.declared.forms.Kind.{Kind as KindOf};
 ghost use Rattle.rules.specs.Forms.{in_order};
 ghost use Rattle.reader.specs.Text.{words};
-ghost use Rattle.ruletext.specs.Outcome.{found, names as names_of, declared, numbers, then, declares, stating, by_letter, by_line, counted, nothing, by_text};
+ghost use Rattle.ruletext.specs.Outcome.{names as names_of, declared, numbers, then, declares, stating, by_letter, by_line, counted, nothing, by_text};
 ghost use Rattle.reader.specs.Cut.{LinesWhole};
 ghost use Rattle.ruletext.specs.Laws.{Orderly};
 ghost use Rattle.ruletext.specs.Means.{Means, OneOutcome, BreaksAt};
@@ -45,6 +45,7 @@ impl<'a> Rules<'a> {
         }
     }
 
+    // An arm for each kind, since what a struct with ghost fields holds is not lent out to be changed.
     fn put_name(&mut self, kind: Kind, word: Word<'a>)
         requires { length (names_of (contents self.old) kind) < most kind }
         ensures { contents self.new ≡ declared (contents self.old) kind (spelt word.entry) }

@@ -6,6 +6,7 @@ use rules::statements::Statement;
 
 /// The names of each kind, the statements and the lines that they stand in, in the order of the text; a name is a part of
 /// the text.
+/// The lines stand beside the statements, since a rule base takes one slice of statements.
 /// There is room for as many as a book may have, so reading a text needs no more memory.
 #[derive(Drop)]
 pub struct Rules<'a> {

@@ -1,4 +1,5 @@
-// The words of one line, counted and judged on a copy of it.
+// The words of one line, counted and judged on a copy of it. They are taken by next_word: an Iterator over them would have to say
+// in its own terms what NextWord says, and the loops would be no shorter.
 ghost use Rattle.std.specs.Prelude.{◌≡◌, ◌+◌, length};
 ghost use Rattle.reader.specs.Text.{words};
 ghost use Rattle.ruletext.specs.Outcome.{all_names};

@@ -1,5 +1,5 @@
 -- What is told of a text that is accepted: the facts of its own counts and statements.
-use Rattle.std.proofs.Common.{◌≡◌, ℕ, ◌<◌, List, length, Ok, Option, ◌∙◌, subst, arith}
+use Rattle.std.proofs.Common.{◌≡◌, ℕ, List, length, Ok, Option, ◌∙◌, subst, arith}
 use native.Mathlib.Decide.{dec_lt}
 use Rattle.rules.specs.Fits.{if_passed, pass}
 use Rattle.rules.specs.declared.counts.Counts.{Counts}

@@ -1,7 +1,7 @@
 -- What the program tells of an input, and the line that it prints. An input is judged as a rule text. Of a text that is
 -- accepted it tells the counts and how many facts follow from the statements, or only `full` if the slots are too few;
 -- of any other the fault.
-use Rattle.std.specs.Prelude.{◌≡◌, ℕ, List, ◌++◌, length, Some, None, Ok, Err, codes, decimal, Option, Result}
+use Rattle.std.specs.Prelude.{◌≡◌, ℕ, List, ◌++◌, Some, None, Ok, Err, codes, decimal, Option, Result}
 use Rattle.rules.specs.Refusals.{number_of}
 use Rattle.ruletext.specs.Outcome.{Contents, nothing}
 use Rattle.ruletext.specs.Reading.{Counted}

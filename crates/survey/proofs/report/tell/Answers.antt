@@ -1,4 +1,4 @@
-use Rattle.std.proofs.Common.{◌≡◌, Some, None, vec_items}
+use Rattle.std.proofs.Common.{◌≡◌, Some, None}
 use Rattle.std.proofs.lemmas.Result.{err_from_is_err_and}
 use Rattle.ruletext.specs.Reading.{contents}
 use Rattle.survey.specs.declared.report.NoSurvey.TheVariants.{Full}
