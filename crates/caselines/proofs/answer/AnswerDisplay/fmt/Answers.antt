@@ -7,4 +7,4 @@ pub returns-in-Recovery-clause-writes : goal.returns-in-Recovery-clause-writes
 returns-in-Recovery-clause-writes g c = λ p o. let h = c.write-in-Recovery.ensures.writes p o in rw c.in-Recovery.is h
 
 pub returns-in-Refused-clause-writes : goal.returns-in-Refused-clause-writes
-returns-in-Refused-clause-writes g c = λ p o. let h = c.write-in-Refused.ensures.writes p o in rw (c.in-Refused.is, ← c.number-reason.ensures) h
+returns-in-Refused-clause-writes g c = λ p o. let h = c.write-in-Refused.ensures.writes p o in rw (c.in-Refused.is, ← c.from-reason.ensures) h
