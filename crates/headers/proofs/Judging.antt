@@ -12,9 +12,7 @@ use Rattle.std.proofs.lemmas.Bool.{and_parts}
 use Rattle.headers.specs.Header.{are_records, records_in, content_refusal, judgement, holding, refuse, judged, of_parts, decode, contents, part, directory_refusal}
 use Rattle.headers.specs.Theorems.{Bytes}
 use Rattle.headers.specs.declared.header.Header.{Header as View}
-use Rattle.headers.specs.declared.header.Parts.{Parts}
-use Rattle.headers.specs.declared.header.Tally.{Tally}
-use Rattle.headers.specs.Views.{Cut, Held, Opened, Reads, holding_of, judgement_of}
+use Rattle.headers.specs.Views.{Parts, Tally, Cut, Held, Opened, Reads, holding_of, judgement_of}
 use Rattle.headers.proofs.Pieces.{length_records}
 use Rattle.headers.proofs.Backward.{one_file, accepted_proper}
 use Rattle.headers.proofs.Spelling.{known_length}

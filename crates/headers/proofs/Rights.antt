@@ -3,8 +3,7 @@ use Rattle.std.proofs.lemmas.Bool.{and_parts, and_from, leb-true, eqb-true, eq-e
 use Rattle.rules.specs.declared.refusals.Refusal.{Refusal}
 use Rattle.rules.specs.Refusals.{refusal}
 use Rattle.rules.specs.declared.refusals.Reason.TheVariants.{WrongDirectory}
-use Rattle.headers.specs.declared.header.Parts.{Parts}
-use Rattle.headers.specs.Views.{Cut}
+use Rattle.headers.specs.Views.{Parts, Cut}
 use Rattle.headers.proofs.Tests.{four_pass}
 use Rattle.headers.specs.Header.{offset, size, end, part, starts, wrong_directory, directory_refusal}
 

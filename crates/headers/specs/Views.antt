@@ -1,18 +1,25 @@
 -- What the calls that read a header tell of it.
 use Rattle.std.specs.Prelude.{◌≡◌, ℕ, ◌<◌, ◌≤◌, List, ◌++◌, length, take, drop, None, Ok, Option}
+use Rattle.std.specs.Borrow.{Bor}
 use Rattle.rules.specs.declared.counts.Counts.{Counts}
 use Rattle.rules.specs.declared.forms.Kind.{Kind}
 use Rattle.rules.specs.declared.forms.Kind.TheVariants as kind
 use Rattle.rules.specs.declared.refusals.Refusal.{Refusal}
 use Rattle.rules.specs.declared.statements.Statement.{Statement}
 use Rattle.headers.specs.declared.header.Header.{Header as View}
-use Rattle.headers.specs.declared.header.Parts.{Parts}
-use Rattle.headers.specs.declared.header.Tally.{Tally}
+use Rattle.headers.specs.declared.header.ByPart.{ByPart}
 use Rattle.headers.specs.Bytes.{joined}
 use Rattle.headers.specs.Names.{lines}
 use Rattle.headers.specs.Records.{record_bytes}
 use Rattle.headers.specs.Header.{Header, part, directory_refusal, content_refusal, judgement, records_in, statements_in, decode, contents, holding, encode, file_of, Named}
 use Rattle.headers.specs.Theorems.{Proper}
+
+-- The bytes of the four parts, and how many names or statements each holds.
+abbrev pub Parts : Type 0
+Parts = ByPart (Bor (List ℕ))
+
+abbrev pub Tally : Type 0
+Tally = ByPart ℕ
 
 -- The four parts of a file with a right directory.
 pub record Cut (b : List ℕ) (p : Parts) : Type 0 where

@@ -13,23 +13,20 @@ use rules::forms::Kind;
 use rules::refusals::{Reason, Refusal};
 use rules::statements::Statement;
 
-/// The four parts of a header.
+/// One thing for each of the four parts of a header: the names of each kind, and the statements.
 #[derive(Clone, Copy)]
-pub struct Parts<'a> {
-    pub individuals: &'a [u8],
-    pub classes: &'a [u8],
-    pub roles: &'a [u8],
-    pub statements: &'a [u8],
+pub struct ByPart<T> {
+    pub individuals: T,
+    pub classes: T,
+    pub roles: T,
+    pub statements: T,
 }
 
+/// The four parts of a header.
+pub type Parts<'a> = ByPart<&'a [u8]>;
+
 /// How many names of each kind and statements a header holds.
-#[derive(Clone, Copy)]
-pub struct Tally {
-    pub individuals: usize,
-    pub classes: usize,
-    pub roles: usize,
-    pub statements: usize,
-}
+pub type Tally = ByPart<usize>;
 
 /// A header in lent bytes.
 #[derive(Clone, Copy)]
