@@ -98,3 +98,20 @@ words_found xs from e ys ye o oe r re =
     let some : 0 < length ys = rw (ye, length-drop) (omega arith) in
     let w = first_word ys o (sym oe) some (rw head (grind (arith, h.1))) in
     record { some = rw re w.some; is = words_skip xs from (omega arith) h.2 ∙ ap words (sym ye) ∙ rw re w.is }
+
+-- No more words than bytes.
+one_more_word : (b : ℕ) (ps : List (List ℕ)) → length (filled (onto b ps)) ≤ length (filled ps) + 1
+unfolding filled onto
+one_more_word b [] = omega arith
+one_more_word b ([] ∷ more) = omega arith
+one_more_word b ((c ∷ cs) ∷ more) = omega arith
+
+filled_at : (t : Bool) (b : ℕ) (ps : List (List ℕ)) → length (filled (cond t ([] ∷ ps) (onto b ps))) ≤ length (filled ps) + 1
+unfolding filled
+filled_at true b ps = omega arith
+filled_at false b ps = one_more_word b ps
+
+pub few_words : (xs : List ℕ) → length (words xs) ≤ length xs
+unfolding words filled pieces
+few_words [] = omega arith
+few_words (b ∷ bs) = let h = few_words bs in let g = filled_at (eqb b 32) b (pieces 32 bs) in omega arith

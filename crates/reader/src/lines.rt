@@ -1,7 +1,8 @@
 // From line to line and from word to word.
 ghost use Rattle.std.specs.Prelude.{◌≡◌, ◌<◌, ◌==◌, ◌∷◌, not, length, position, IfSome, MatchOption};
+ghost use Rattle.std.specs.Iterator.{at_most};
 ghost use Rattle.reader.specs.Text.{lines};
-ghost use Rattle.reader.specs.Reading.{lines_of, AtStart, NextLine, NoLine, NextWord, NoWord};
+ghost use Rattle.reader.specs.Reading.{lines_of, lines_left, words_left, AtStart, NextLine, NoLine, NextWord, NoWord};
 
 use crate::reader::{Line, Reader, Word};
 
@@ -48,6 +49,32 @@ impl<'a> Line<'a> {
             line: self.line,
             word: self.word,
         })
+    }
+}
+
+/// A line is gone through word by word, from where it stands.
+impl<'a> Iterator for Line<'a> {
+    type Item = Word<'a>;
+
+    ghost next_gives = { λ before w after. MatchOption w (NoWord before after) (λ w. NextWord before w after) };
+
+    ghost remaining = { λ l. at_most (length (words_left l)) };
+
+    fn next(&mut self) -> Option<Word<'a>> {
+        self.next_word()
+    }
+}
+
+/// A reader is gone through line by line, from where it stands.
+impl<'a> Iterator for Reader<'a> {
+    type Item = Line<'a>;
+
+    ghost next_gives = { λ before l after. MatchOption l (NoLine before after) (λ l. NextLine before l after) };
+
+    ghost remaining = { λ r. at_most (length (lines_left r)) };
+
+    fn next(&mut self) -> Option<Line<'a>> {
+        self.next_line()
     }
 }
 

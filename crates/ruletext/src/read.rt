@@ -45,7 +45,7 @@ impl<'a> Rules<'a> {
         }
     }
 
-    // An arm for each kind, since what a struct with ghost fields holds is not lent out to be changed.
+    // An arm for each kind: tried a method that gives the `&mut Vec` of a kind, and a `match` that picks it; the borrow checker covers neither.
     fn put_name(&mut self, kind: Kind, word: Word<'a>)
         requires { length (names_of (contents self.old) kind) < most kind }
         ensures { contents self.new ≡ declared (contents self.old) kind (spelt word.entry) }
@@ -203,8 +203,7 @@ impl<'a> Rules<'a> {
         ensures { MatchResult result (λ c. (by_text text.now ≡ Ok (contents self.new)) × Counted c (contents self.new)) (λ e. by_text text.now ≡ Err e) }
     {
         self.clear();
-        let mut reader = Reader::new(text);
-        while let Some(line) = reader.next_line() {
+        for line in Reader::new(text) {
             self.read_line(line)?;
         }
         self.counts()

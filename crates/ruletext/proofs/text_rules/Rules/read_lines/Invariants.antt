@@ -1,4 +1,4 @@
-use Rattle.std.proofs.Common.{◌≡◌, ◌+◌, length}
+use Rattle.std.proofs.Common.{◌≡◌, ◌+◌}
 use Rattle.reader.specs.Text.{lines}
 use Rattle.ruletext.specs.Outcome.{by_lines, nothing}
 use Rattle.ruletext.specs.Reading.{contents}
@@ -6,7 +6,7 @@ use Rattle.reader.specs.Reading.{lines_left}
 use Rattle.ruletext.proofs.text_rules.Rules.read_lines.Given as goal
 
 abbrev pub invariant-loop-line : goal.invariant-loop-line
-invariant-loop-line l = by_lines 1 nothing (lines l.text) ≡ by_lines (l.reader.line + 1) (contents l.self) (lines_left l.reader)
-
-abbrev pub decreases-loop-line : goal.decreases-loop-line
-decreases-loop-line l = length (lines_left l.reader)
+invariant-loop-line l =
+    (goal.iterator-loop-line).can_next l.line-iterator ×
+    (goal.iterator-loop-line).is_finite l.line-iterator ×
+    (by_lines 1 nothing (lines l.text) ≡ by_lines (l.line-iterator.line + 1) (contents l.self) (lines_left l.line-iterator))
