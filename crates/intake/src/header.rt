@@ -53,6 +53,7 @@ pub fn read_header(bytes: &[u8]) -> Result<Header<'_>, Refusal>
 
 /// The counts of the header in a file, and its statements at the front of the memory; or its one refusal, and the memory is
 /// as it was.
+// A whole array of fixed size, since the engine takes no heap: 384 is the most statements that a header has.
 pub fn take_header(bytes: &[u8], memory: &mut [Statement; 384]) -> Result<Counts, Refusal>
     ensures taken { MatchResult result (λ c. Taken bytes.now c.individuals c.classes c.roles c.statements memory.old memory.new) (λ e. HeaderMeans bytes.now (Err e) × (memory.new ≡ memory.old)) }
     ensures one { OneHeaderOutcome bytes.now }

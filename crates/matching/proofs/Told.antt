@@ -2,8 +2,6 @@
 use Rattle.std.proofs.Common.{◌≡◌, ℕ, sym, refl, ap, ◌∙◌, arith}
 use Rattle.calculus.specs.Numbers.{Inside}
 use Rattle.calculus.specs.TermNumbers.{first_same, second_same}
-use Rattle.calculus.specs.declared.terms.First.{First}
-use Rattle.calculus.specs.declared.terms.Second.{Second}
 use Rattle.calculus.specs.declared.terms.Ground.{Ground}
 use Rattle.calculus.specs.declared.terms.Fact.{Fact}
 use Rattle.calculus.specs.declared.terms.Fact.TheVariants.{Instance, SelfPair, Pair}

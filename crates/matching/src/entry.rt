@@ -83,6 +83,7 @@ fn entry_with(letter: u8, first: u64, role: u16, second: u64, ground: Ground) ->
 
 /// The entry of a fact and its ground; `None` if a number does not fit its field. Whatever a ground gives from facts of a
 /// book has an entry.
+// The two come apart, as `gives` of grounds takes them: a GroundedFact, which is what an entry tells, is made by reading.
 pub fn entry_of(counts: Counts, fact: Fact, ground: Ground) -> Option<Entry>
     ensures told { MatchOption result (¬ EntryFits (entry_of counts.individuals fact ground)) (λ e. e ≡ entry_of counts.individuals fact ground) }
     ensures given { GivenFits }

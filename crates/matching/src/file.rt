@@ -13,7 +13,7 @@ use rules::refusals::{Reason, Refusal};
 use rules::statements::Statement;
 
 // The file with an accepted header: a refusal of the file or the store, or no at 0, or what the entries say. Of the store the
-// three clauses of MarkStore stand as there: as one they would be longer, with six numbers.
+// three clauses of the trait MarkStore stand here as there: as one they would be longer, with six numbers.
 fn compare<S: MarkStore>(
     base: RuleBase<'_>,
     header: &[u8],
@@ -33,6 +33,7 @@ fn compare<S: MarkStore>(
     if parts.header == header {
         judge_part(base, parts.entries, store)
     } else {
+        // 0 is no place of an entry: it says that the file is of another header
         Ok(Verdict::No(0))
     }
 }
@@ -55,6 +56,6 @@ pub fn match_file<S: MarkStore>(
     // fixed memory, since the engine takes no heap; the counts say how much of it is in use
     let mut memory = [Statement::Empty { class: 0 }; 384];
     let counts = take_header(header, &mut memory)?;
-    let base = RuleBase::new(counts, &memory[0..counts.statements as usize]);
+    let base = RuleBase::new(counts, &memory[0..usize::from(counts.statements)]);
     compare(base, header, file, store)
 }

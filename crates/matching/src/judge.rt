@@ -66,6 +66,7 @@ impl<'b, 's, S: MarkStore> Judge for BookJudge<'b, 's, S> {
 }
 
 // Goes over the entries of a part, whose good ones put their facts into the empty store.
+// The last three clauses are those of the trait MarkStore, for the store is changed only by its methods.
 pub(crate) fn judge_part<S: MarkStore>(
     base: RuleBase<'_>,
     part: &[u8],

@@ -1,10 +1,8 @@
 -- A judge that goes by tests.
-use Rattle.std.proofs.Common.{◌≡◌, ℕ, ◌+◌, Bool, true, false, List, ◌∷◌, ◌++◌, Result, sym, refl, ap, ◌∙◌}
+use Rattle.std.proofs.Common.{ℕ, ◌+◌, Bool, List, refl}
 use Rattle.std.proofs.lemmas.Bool.{false_from_ne_true}
-use Rattle.rules.specs.declared.refusals.Refusal.{Refusal}
 use Rattle.recovery.specs.Entries.{at_bad, at_full, past_good, at_lack, at_end}
-use Rattle.recovery.specs.Tested.{TestsTell, verdict, kept_of}
-use Rattle.recovery.specs.declared.entries.Verdict.{Verdict}
+use Rattle.recovery.specs.Tested.{TestsTell}
 
 module _ {J : Type 0} (seen : J → List (List ℕ)) (good : List (List ℕ) → List ℕ → Bool) (full whole : List (List ℕ) → Bool) where
   pub tests_tell : TestsTell seen good full whole

@@ -30,7 +30,7 @@ pub fn room(out: &[u8], header: &[u8]) -> Result<(), Refusal>
 }
 
 // Sixteen zero bytes and the header.
-fn put_front(out: &mut [u8], header: &[u8])
+fn put_zeros_and_header(out: &mut [u8], header: &[u8])
     requires { 16 + length header.now ≤ length out.old }
     ensures { out.new ≡ laid out.old 0 (begun_bytes header.now) }
 {
@@ -48,7 +48,7 @@ pub fn begin<'a>(out: &'a mut [u8], header: &[u8]) -> Begun<'a>
 {
     let size = header.len();
     let at = if fits(out.len(), size as u128 + 16) {
-        put_front(out, header);
+        put_zeros_and_header(out, header);
         16 + size
     } else {
         4294967296
@@ -85,7 +85,7 @@ impl<'a> Begun<'a> {
         if !is_standing(out, at, header) {
             return 0;
         }
-        put_directory(out, header, at - (16 + header));
+        put_two_pairs(out, header, at - (16 + header));
         at
     }
 }
@@ -126,7 +126,7 @@ fn is_standing(out: &[u8], at: usize, header: usize) -> bool
 }
 
 // The directory of a file with a header and entries of these lengths.
-fn put_directory(out: &mut [u8], header: usize, entries: usize)
+fn put_two_pairs(out: &mut [u8], header: usize, entries: usize)
     requires { (16 ≤ length out.old) × (16 + header + entries < 4294967296) }
     ensures { out.new ≡ laid out.old 0 (two_pairs header entries) }
 {

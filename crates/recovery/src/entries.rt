@@ -4,7 +4,7 @@ ghost use Rattle.headers.specs.Bytes.{cut};
 ghost use Rattle.recovery.specs.declared.entry.Entry.{Entry};
 ghost use Rattle.recovery.specs.Entries.{Judges, Gone};
 
-use crate::entry::{Entry, cut_entry};
+use crate::entry::{Entry, entry_in};
 use rules::refusals::{Reason, Refusal};
 
 /// What going over the entries answers: yes, or no with a place.
@@ -31,7 +31,7 @@ pub trait Judge {
     ghost full: { Self → Type 0 };
     // whether no fact is missing from what is kept
     ghost whole: { Self → Type 0 };
-    // whether one is
+    // whether a fact is missing from what is kept
     ghost lacks: { Self → Type 0 };
     // a judge, an entry, and the judge once it has kept it
     ghost keeps: { Self → Entry → Self → Type 0 };
@@ -51,21 +51,17 @@ pub trait Judge {
 pub fn judge_entries<J: Judge>(judge: &mut J, part: &[u8]) -> Result<Verdict, Refusal>
     ensures { Gone J.Judge.good J.Judge.full J.Judge.whole J.Judge.lacks J.Judge.keeps J.Judge.alike (cut 14 part.now) 1 judge.old judge.new result }
 {
-    // over chunks of fourteen bytes a `for` would need an answer for a chunk that is no entry; `cut_entry` ends this loop
-    let mut rest = part;
-    let mut place = 1;
-    while let Some(next) = cut_entry(rest) {
-        match judge.judge(next.entry) {
+    let (records, _) = part.as_chunks::<14>();
+    for (i, bytes) in records.iter().enumerate() {
+        match judge.judge(entry_in(*bytes)) {
             Judged::Good => {}
-            Judged::Bad => return Ok(Verdict::No(place)),
+            Judged::Bad => return Ok(Verdict::No(i + 1)),
             Judged::Full => return Err(Reason::StoreTooSmall.into()),
         }
-        rest = next.rest;
-        place += 1;
     }
     if judge.is_whole() {
         Ok(Verdict::Yes)
     } else {
-        Ok(Verdict::No(place))
+        Ok(Verdict::No(records.len() + 1))
     }
 }

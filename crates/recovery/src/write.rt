@@ -26,6 +26,7 @@ fn fill(out: &mut [u8], header: &[u8], entries: &[Entry]) -> usize
 {
     let mut file = begin(out, header);
     for entry in entries {
+        // this cannot fail: the requirement says that the whole file fits, so each entry finds room
         let _ = file.put(*entry);
     }
     file.close()

@@ -2,7 +2,7 @@ use Rattle.std.proofs.Common.{◌+◌, refl, ap, ◌∙◌, arith}
 use Rattle.headers.specs.Header.{pair}
 use Rattle.headers.specs.Output.{laid}
 use Rattle.headers.proofs.Laying.{laid_two}
-use Rattle.recovery.proofs.begun.put_directory.Goals as goal
+use Rattle.recovery.proofs.begun.put_two_pairs.Goals as goal
 
 pub returns : goal.returns
 returns c =
