@@ -1,7 +1,8 @@
-use Rattle.std.proofs.Common.{◌≡◌, length, sym, rules}
+use Rattle.std.proofs.Common.{◌≡◌, ◌+◌, Ok, length, sym, subst, rules}
 use Rattle.std.proofs.lemmas.List.{drop_all}
 use Rattle.headers.specs.Bytes.{cut}
-use Rattle.recovery.specs.Entries.{at_bad, at_full, past_good, at_lack, at_end}
+use Rattle.recovery.specs.Entries.{Gone, at_bad, at_full, past_good, at_lack, at_end}
+use Rattle.recovery.specs.declared.entries.Verdict.TheVariants.{No}
 use Rattle.recovery.proofs.Verdicts.{comes}
 use Rattle.recovery.proofs.entries.judge_entries.Goals as goal
 
@@ -31,4 +32,5 @@ pub returns-else-is_whole : goal.returns-else-is_whole
 returns-else-is_whole g c =
     let front : c.as_chunks.result.0.now ≡ cut 14 c.args.part.now = c.as_chunks.ensures.front in
     let e : length c.as_chunks.result.0.now ≡ c.loop-i.i = search rules in
-    rw (e, sym {b = cut 14 c.args.part.now} front) (c.loop-i.invariant _ _ (rw (drop_all c.loop-i.i c.as_chunks.result.0.now c.loop-i-test.false) (at_lack (c.is_whole.ensures.lacks c.if-is_whole.false))))
+    let k = g.J.Judge in
+    rw (sym {b = cut 14 c.args.part.now} front) (subst (λ n. Gone k.good k.full k.whole k.lacks k.keeps k.alike c.as_chunks.result.0.now 1 c.args.judge.now c.loop-i.judge (Ok (No (n + 1)))) (sym e) (c.loop-i.invariant c.loop-i.judge (Ok (No (c.loop-i.i + 1))) (rw (drop_all c.loop-i.i c.as_chunks.result.0.now c.loop-i-test.false) (at_lack (c.is_whole.ensures.lacks c.if-is_whole.false)))))
