@@ -14,7 +14,7 @@ pub enum Answer {
     Header { tally: Tally, same: bool },
     /// A recovery file, with the lengths of its two parts.
     Recovery { header: usize, entries: usize },
-    /// Its refusal.
+    /// Its refusal. No Result with the refusal as its error: a refusal is one of the lines that are told, and no failure of the trial.
     Refused(Refusal),
 }
 
@@ -46,6 +46,7 @@ impl fmt::Display for Answer {
                 write!(f, "header {n} {k} {r} {m} same {same}")
             }
             Answer::Recovery { header, entries } => write!(f, "recovery {header} {entries}"),
+            // each program tells a refusal in words of its own, so a refusal has no Display
             Answer::Refused(refusal) => {
                 let reason = u8::from(refusal.reason);
                 let place = refusal.place;

@@ -20,6 +20,7 @@ pub fn bytes_of(alloc: Global, line: &[u8]) -> Result<Vec<u8>, AllocError>
     ensures { IfOk result (λ v. v.items ≡ hex_bytes line.now) }
 {
     let mut bytes = Vec::new(alloc);
+    // two places at a time, as `hex_bytes` of the contract goes over the line: over pairs it would ask a lemma that says the same of pairs
     let mut rest = line;
     while let [high, low, after @ ..] = rest {
         if let (Some(high), Some(low)) = (digit(*high), digit(*low)) {

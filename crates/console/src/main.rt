@@ -8,7 +8,8 @@ use std::io;
 use std::io::Read;
 use survey::report::tell;
 
-// Reads into a buffer until the input ends or the buffer is full.
+// Reads into a buffer until the input ends or the buffer is full. No `read_to_end` into a Vec: it could run out of memory as it
+// reads, which a fixed buffer cannot.
 fn fill<R: Read>(input: &mut R, buffer: &mut [u8]) -> io::Result<usize>
     ensures { IfOk result (λ n. n ≤ length buffer.old) }
 {

@@ -14,7 +14,9 @@ use rules::statements::Statement;
 use std::io;
 use std::io::Read;
 
-// Whether writing the header again with these statements gives the same bytes.
+// Whether writing the header again with these statements gives the same bytes. The trial of files copies the statements itself,
+// and has a function alike: the few lines are no plainer as one of caselines, which would owe them a contract. The arrays are as
+// long as a header can be, so nothing here can run out of memory.
 fn is_same(header: &Header<'_>, statements: &[Statement], bytes: &[u8]) -> bool {
     let mut output = [0u8; 13504];
     match header.rewrite(statements, &mut output) {

@@ -21,6 +21,7 @@ fn is_blank(bytes: &[u8]) -> bool {
     bytes.iter().all(|b| *b == BLANK)
 }
 
+// Each program tells a refusal in words of its own, so a refusal has no Display.
 fn print_refusal(
     rt: &HostRuntime,
     number: usize,

@@ -74,6 +74,7 @@ impl fmt::Display for NoSurvey {
     fn fmt<W: fmt::Write>(&self, f: &mut fmt::Formatter<W>) -> fmt::Result {
         match *self {
             NoSurvey::Full => write!(f, "full"),
+            // each program tells a refusal in words of its own, so a refusal has no Display
             NoSurvey::Refused(fault) => {
                 let number = u8::from(fault.reason);
                 let line = fault.place;
