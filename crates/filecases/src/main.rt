@@ -15,10 +15,8 @@ fn is_same(header: &Header<'_>, bytes: &[u8]) -> bool {
     let mut memory = [Statement::Empty { class: 0 }; 384];
     let mut output = [0u8; 13504];
     let count = header.copy_statements(&mut memory);
-    match header.rewrite(&memory[0..count], &mut output) {
-        Ok(size) => &output[0..size] == bytes,
-        Err(_) => false,
-    }
+    let written = header.rewrite(&memory[0..count], &mut output);
+    written.is_ok_and(|size| &output[0..size] == bytes)
 }
 
 fn header_answer(bytes: &[u8]) -> Answer {
