@@ -24,6 +24,7 @@ pub fn first_breaking(base: &RuleBase<'_>) -> Option<usize>
     // A bit for each of 8,224 role facts, the most that there can be: the engine uses no heap.
     let mut words = [0u64; 129];
     let mut table = WordTable::over(&mut words);
+    // This cannot fail: 129 words have a bit for each role fact.
     let _ = table.set_up(rules.bound());
     first_broken_by(&rules, &mut table)
 }
@@ -32,10 +33,7 @@ pub fn first_breaking(base: &RuleBase<'_>) -> Option<usize>
 pub fn check_admissible(base: &RuleBase<'_>) -> Result<(), Refusal>
     ensures { MatchResult result (λ _. Admissible base.now.statements.now) (λ e. FirstBreaking base.now.statements.now e.place × (e ≡ refusal NotAdmissible e.place 0)) }
 {
-    match first_breaking(base) {
-        None => Ok(()),
-        Some(place) => Err(Reason::NotAdmissible.at(place, 0)),
-    }
+    first_breaking(base).map_or(Ok(()), |place| Err(Reason::NotAdmissible.at(place, 0)))
 }
 
 // The same as `first_breaking`, by marking in an empty store with a limit for all role facts.
@@ -45,6 +43,7 @@ fn first_broken_by<S: MarkStore>(rules: &RoleRules<'_>, store: &mut S) -> Option
     requires empty { (x : ℕ) → S.MarkStore.held store.old x ≡ false }
     ensures { MatchOption result (Admissible rules.now.base.statements.now) (λ p. FirstBreaking rules.now.base.statements.now p) }
 {
+    // This cannot fail: the store's limit is the number of all role facts, and so the rules' bound.
     let _ = mark(rules, store, u64::MAX);
     let judgement = Judgement {
         base: rules.base,
