@@ -56,6 +56,7 @@ impl<'a, S: MarkStore> Question<'a, S> {
     fn said_gives(&self, on: Key, p: u16, said: Lines) -> bool
         ensures { Decides result (SaidGives self.now.counts.individuals self.now.counts.classes self.now.counts.roles (S.MarkStore.held self.now.store.now) self.now.fact self.now.ground on p said) }
     {
+        // Not `flatten`: with it the loop goes by an iterator without places, and `returns-then-line_gives` stayed open in a first try.
         for line in said {
             let Some(line) = line else {
                 continue;

@@ -13,7 +13,8 @@ use linetable::table::{finish_of, start_of};
 use marks::store::MarkStore;
 use rules::counts::Counts;
 
-/// The question whether a ground gives a fact from the facts that a store holds.
+/// The question whether a ground gives a fact from the facts that a store holds. The definitions speak of its numbers and not of
+/// this struct, so that they can be read without the code.
 #[derive_where(Clone, Copy)]
 pub(crate) struct Question<'a, S: MarkStore> {
     pub counts: Counts,
