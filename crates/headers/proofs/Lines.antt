@@ -1,7 +1,8 @@
-use Rattle.std.proofs.Common.{◌≡◌, ℕ, zero, suc, ◌+◌, ◌-◌, ◌<◌, Bool, true, false, not, ◌&&◌, ◌||◌, eqb, List, [], ◌∷◌, ◌++◌, length, get_or, take, drop, Some, None, Decides, sym, refl, ap, ◌∙◌, inl, inr, suc-le-suc, zero-le, arith, length-append, take-append-drop}
+use Rattle.std.proofs.Common.{◌≡◌, ℕ, zero, suc, ◌+◌, ◌<◌, Bool, true, false, not, ◌&&◌, eqb, List, [], ◌∷◌, ◌++◌, length, get_or, take, drop, Some, None, sym, refl, ap, ◌∙◌, inl, inr, suc-le-suc, zero-le, arith, length-append, take-append-drop}
 use Rattle.std.specs.Str.{bytes_eq}
-use Rattle.std.proofs.lemmas.Slice.Eq.{bytes_eq-Decides}
-use Rattle.std.proofs.lemmas.Bool.Decides.{same_from_decides}
+use Rattle.std.specs.Cmp.Lexicographic.{pointwise}
+use Rattle.std.proofs.lemmas.Slice.Eq.{slice_eq-Decides, bytes_eq-Decides}
+use Rattle.std.proofs.lemmas.Bool.Decides.{same_from_decides, Decides-eqb}
 use Rattle.std.proofs.lemmas.List.{drop_more}
 use Rattle.std.proofs.lemmas.List.Quantifiers.{position-Some}
 use Rattle.std.proofs.lemmas.Iterator.Adapters.{position_from-zero}
@@ -60,16 +61,9 @@ ended_after l (b ∷ bs) rest = ended_after b bs rest
 pub shorter : (b x rest : List ℕ) → b ≡ x ++ (10 ∷ rest) → length rest < length b
 shorter b x rest e = omega (arith, ap length e, length-append x (10 ∷ rest))
 
--- a name is looked for in the lines, one line on
-module _ (b x rest name : List ℕ) (t : Bool) (q : lines b ≡ x ∷ lines rest) (d : Decides t (x ≡ name)) where
-  same_is : bytes_eq name x ≡ t
-  same_is = same_from_decides (bytes_eq name x) t (bytes_eq-Decides name x) ((λ e. sym (d.0 e)), (λ e. d.1 (sym e)))
-
-  pub in_step : t ≡ false → is_in name (lines b) ≡ is_in name (lines rest)
-  in_step e = ap (is_in name) q ∙ ap (λ v. v || is_in name (lines rest)) (same_is ∙ e)
-
-  pub in_here : t ≡ true → is_in name (lines b) ≡ true
-  in_here e = ap (is_in name) q ∙ ap (λ v. v || is_in name (lines rest)) (same_is ∙ e)
+-- what `==` says of two names
+pub same_bytes : (x y : List ℕ) (b : Bool) → b ≡ pointwise eqb x y → b ≡ bytes_eq x y
+same_bytes x y b e = sym (same_from_decides (bytes_eq x y) b (bytes_eq-Decides x y) (slice_eq-Decides Decides-eqb x y b e))
 
 -- a part of names, one line on
 module _ (b x rest : List ℕ) (p : b ≡ x ++ (10 ∷ rest)) (q : lines b ≡ x ∷ lines rest) where
@@ -113,15 +107,3 @@ names_open (x ∷ xs) e h = ap (λ t. t && (all is_name (lines (x ∷ xs)) && di
 
 pub none_none : (b : List ℕ) → lines b ≡ [] → length (lines b) ≡ 0
 none_none b e = ap length e
-
--- the name at a place, one line on
-skip : (left : ℕ) (x : List ℕ) (ls : List (List ℕ)) → (left ≡ 0 → ⊥) → get_or (x ∷ ls) left [] ≡ get_or ls (left - 1) []
-skip zero x ls h = absurd (h refl)
-skip (suc n) x ls h = let e : n ≡ suc n - 1 = omega arith in ap (λ i. get_or ls i []) e
-
-module _ (b x rest : List ℕ) (ls : List (List ℕ)) (place left : ℕ) (q : lines b ≡ x ∷ lines rest) (g : get_or ls place [] ≡ get_or (lines b) left []) (n : place + length (lines b) ≡ left + length ls) where
-  pub name_here : left ≡ 0 → (place < length ls) × (x ≡ get_or ls place [])
-  name_here z = (omega (arith, ap length q), sym (g ∙ (ap (λ i. get_or (lines b) i []) z ∙ ap (λ (l : List (List ℕ)). get_or l 0 []) q)))
-
-  pub name_on : (left ≡ 0 → ⊥) → (get_or ls place [] ≡ get_or (lines rest) (left - 1) []) × (place + length (lines rest) ≡ left - 1 + length ls)
-  name_on h = (g ∙ (ap (λ (l : List (List ℕ)). get_or l left []) q ∙ skip left x (lines rest) h), omega (arith, ap length q, h))

@@ -1,6 +1,7 @@
 -- A part of names: lines, each ended by byte 10. Each is a name as in a rule text, 1 to 24 of a-z, 0-9 and hyphen, and no line
 -- stands twice.
-use Rattle.std.specs.Prelude.{ℕ, Bool, true, false, cond, not, ◌&&◌, ◌||◌, List, [], ◌∷◌, ◌++◌, ◌==◌}
+use Rattle.std.specs.Prelude.{ℕ, Bool, true, cond, not, ◌&&◌, List, [], ◌∷◌, ◌++◌, ◌==◌}
+use Rattle.std.specs.List.{list_any}
 use Rattle.std.specs.Str.{bytes_eq}
 use Rattle.reader.specs.Text.{is_name}
 use Rattle.headers.specs.Bytes.{all}
@@ -21,8 +22,7 @@ ended last (b ∷ bs) = ended b bs
 
 -- whether a line is among others
 abbrev pub is_in : List ℕ → List (List ℕ) → Bool
-is_in x [] = false
-is_in x (y ∷ ys) = bytes_eq x y || is_in x ys
+is_in x ys = list_any (bytes_eq x) ys
 
 -- no line stands twice
 abbrev pub distinct : List (List ℕ) → Bool

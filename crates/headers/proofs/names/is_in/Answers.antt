@@ -1,19 +1,11 @@
-use Rattle.std.proofs.Common.{sym, ◌∙◌}
-use Rattle.std.proofs.lemmas.Slice.Eq.{slice_eq-Decides}
-use Rattle.headers.proofs.Lines.{in_step, in_here, shorter}
+use Rattle.std.proofs.Common.{rules, tests, refl}
+use Rattle.std.specs.Str.{bytes_eq}
+use Rattle.std.proofs.lemmas.Iterator.Consumers.{YieldsList-from_first}
+use Rattle.std.proofs.lemmas.Iterator.Search.{any_from_yields_List}
+use Rattle.headers.specs.Names.{lines}
+use Rattle.headers.proofs.Lines.{same_bytes}
 use Rattle.headers.proofs.names.is_in.Goals as goal
-use Rattle.std.proofs.lemmas.Bool.Decides.{Decides-eqb}
 
-pub returns-then-eq : goal.returns-then-eq
-returns-then-eq c =
-    let f = c.in-Some.ensures in
-    sym (c.loop-one.invariant ∙ in_here c.loop-one.rest.now c.in-Some.one.now c.in-Some.after.now c.args.name.now c.eq.result f.1 (slice_eq-Decides Decides-eqb _ _ _ c.eq.ensures) c.if-eq.true)
-
-pub loop-one-smaller : goal.loop-one-smaller
-loop-one-smaller c =
-    shorter c.loop-one.rest.now c.in-Some.one.now c.in-Some.after.now c.in-Some.ensures.0
-
-pub loop-one-preserved : goal.loop-one-preserved
-loop-one-preserved c =
-    let f = c.in-Some.ensures in
-    c.loop-one.invariant ∙ in_step c.loop-one.rest.now c.in-Some.one.now c.in-Some.after.now c.args.name.now c.eq.result f.1 (slice_eq-Decides Decides-eqb _ _ _ c.eq.ensures) c.if-eq.false
+pub returns : goal.returns
+returns c =
+    any_from_yields_List (bytes_eq c.args.name.now) c.any.new.self _ c.any.result c.any.ensures.ran (YieldsList-from_first (λ x. x.now) (λ s. lines s.rest.now) (lines c.args.part.now) refl) (λ x b q k. search (rules, tests, same_bytes))
