@@ -31,6 +31,36 @@ const EVERY_FORM: [char; 17] = [
 
 const OFFICE_FORMS: [char; 8] = ['a', 'b', 'g', 'a', 'j', 'b', 'h', 'i'];
 
+const OFFICE: Plan<'static> = Plan {
+    name: "office",
+    individuals: 12,
+    classes: 24,
+    roles: 4,
+    statements: 32,
+    letters: &OFFICE_FORMS,
+    most: 1000000,
+};
+
+const BOOK: Plan<'static> = Plan {
+    name: "book",
+    individuals: 64,
+    classes: 64,
+    roles: 8,
+    statements: 150,
+    letters: &EVERY_FORM,
+    most: 1000000,
+};
+
+const LARGEST: Plan<'static> = Plan {
+    name: "largest",
+    individuals: 128,
+    classes: 256,
+    roles: 32,
+    statements: 384,
+    letters: &EVERY_FORM,
+    most: 100000,
+};
+
 // A number below another, drawn for a field of the statement at a place.
 fn draw(place: u16, field: u16, below: u16) -> u16 {
     if below == 0 {
@@ -96,9 +126,9 @@ fn run<F: FnOnce(&BookRules) -> Option<Marked>>(
 {
     let all = statements(rt.alloc(), plan)?;
     let Ok(base) = RuleBase::check(
-        plan.individuals as usize,
-        plan.classes as usize,
-        plan.roles as usize,
+        usize::from(plan.individuals),
+        usize::from(plan.classes),
+        usize::from(plan.roles),
         &all,
     ) else {
         println!(rt; "no such book")?;
@@ -122,46 +152,19 @@ fn run<F: FnOnce(&BookRules) -> Option<Marked>>(
 fn main(rt: HostRuntime) -> anyhow::Result<()> {
     let mut words = [0u64; 135000];
     let mut slots = [None::<u64>; 262144];
-    let office = Plan {
-        name: "office",
-        individuals: 12,
-        classes: 24,
-        roles: 4,
-        statements: 32,
-        letters: &OFFICE_FORMS,
-        most: 1000000,
-    };
-    let book = Plan {
-        name: "book",
-        individuals: 64,
-        classes: 64,
-        roles: 8,
-        statements: 150,
-        letters: &EVERY_FORM,
-        most: 1000000,
-    };
-    let largest = Plan {
-        name: "largest",
-        individuals: 128,
-        classes: 256,
-        roles: 32,
-        statements: 384,
-        letters: &EVERY_FORM,
-        most: 100000,
-    };
-    run(&rt, book, "word table", |rules| {
-        in_words(rules, &mut words, book.most)
+    run(&rt, BOOK, "word table", |rules| {
+        in_words(rules, &mut words, BOOK.most)
     })?;
-    run(&rt, book, "slot table", |rules| {
-        in_slots(rules, &mut slots, book.most)
+    run(&rt, BOOK, "slot table", |rules| {
+        in_slots(rules, &mut slots, BOOK.most)
     })?;
-    run(&rt, office, "word table", |rules| {
-        in_words(rules, &mut words, office.most)
+    run(&rt, OFFICE, "word table", |rules| {
+        in_words(rules, &mut words, OFFICE.most)
     })?;
-    run(&rt, office, "slot table", |rules| {
-        in_slots(rules, &mut slots, office.most)
+    run(&rt, OFFICE, "slot table", |rules| {
+        in_slots(rules, &mut slots, OFFICE.most)
     })?;
-    run(&rt, largest, "word table", |rules| {
-        in_words(rules, &mut words, largest.most)
+    run(&rt, LARGEST, "word table", |rules| {
+        in_words(rules, &mut words, LARGEST.most)
     })
 }

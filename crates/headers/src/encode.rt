@@ -20,7 +20,7 @@ fn put_line(out: &mut [u8], at: usize, name: &[u8])
     lay(out, at + name.len(), b"\n");
 }
 
-// How long names are with their ends, if 32 bits can say it.
+// How long names are with their ends, if 32 bits can say it. A loop, since it ends where 32 bits are full.
 fn names_size<N: AsSlice<u8>>(names: &[N]) -> Option<usize>
     ensures { MatchOption result (4294967296 ≤ length (joined line (map N.items names.now))) (λ n. (n ≡ length (joined line (map N.items names.now))) × (n < 4294967296)) }
 {
@@ -35,7 +35,7 @@ fn names_size<N: AsSlice<u8>>(names: &[N]) -> Option<usize>
     Some(size)
 }
 
-// The names of a part; answers where they end.
+// The names of a part; answers where they end. `to` is a place in the bytes, and no index of a name.
 fn put_names<N: AsSlice<u8>>(out: &mut [u8], at: usize, names: &[N]) -> usize
     requires { at + length (joined line (map N.items names.now)) ≤ length out.old }
     ensures bytes { out.new ≡ laid out.old at (joined line (map N.items names.now)) }

@@ -117,7 +117,7 @@ impl<'a> Header<'a> {
     }
 }
 
-/// The header in a file, or its one refusal.
+/// The header in a file, or its one refusal; whether its statements are admissible is not asked, since roles are not known here.
 pub fn read_header(bytes: &[u8]) -> Result<Header<'_>, Refusal>
     ensures exact { MatchResult result (λ h. Reads bytes.now h) (λ e. decode bytes.now ≡ Err e) }
     ensures only { OnlyOne }

@@ -8,7 +8,7 @@ use rules::forms::field_kinds;
 use rules::statements::Statement;
 use rules::three::Three;
 
-/// A letter and three fields.
+/// A letter and three fields. A header may hold any byte as the letter, so it is a byte until `statement` judges it.
 #[derive(Clone, Copy)]
 pub struct Record {
     pub letter: u8,
@@ -51,6 +51,7 @@ impl Record {
     {
         match field_kinds(char::from(self.letter)) {
             Some(kinds) => wrong_field(counts, kinds, self.fields),
+            // No form has the letter: it is the letter itself that is wrong.
             None => Some(0),
         }
     }

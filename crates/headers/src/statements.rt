@@ -35,7 +35,7 @@ pub(crate) fn check_fields(counts: Counts, part: &[u8]) -> Result<(), Refusal>
     Ok(())
 }
 
-// Copies the statements of a part as far as the memory goes.
+// Copies the statements of a part as far as the memory goes. The count goes up where a record gives a statement, so it is no place in the records.
 pub(crate) fn copy_statements(part: &[u8], memory: &mut [Statement]) -> usize
     ensures { Copied memory.old memory.new (statements_in part.now) result }
 {

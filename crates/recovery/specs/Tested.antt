@@ -21,10 +21,15 @@ abbrev pub kept_of : (List (List ℕ) → List ℕ → Bool) → (List (List ℕ
 kept_of good full seen [] = seen
 kept_of good full seen (e ∷ es) = cond (good seen e) (cond (full seen) seen (kept_of good full (seen ++ (e ∷ [])) es)) seen
 
--- What going over entries answers where a judge goes by these tests.
-abbrev pub TestsTell : {J : Type 0} → (J → List (List ℕ)) → (List (List ℕ) → List ℕ → Bool) → (List (List ℕ) → Bool) → (List (List ℕ) → Bool) → Type 0
-TestsTell {J} seen good full whole =
+-- The tests of two judges are the same.
+abbrev pub SameTests : {J : Type 0} (good : J → List (List ℕ) → List ℕ → Bool) (full whole : J → List (List ℕ) → Bool) → J → J → Type 0
+SameTests good full whole j i = (good i ≡ good j) × (full i ≡ full j) × (whole i ≡ whole j)
+
+-- What going over entries answers, whatever the tests are that judges of this kind go by.
+abbrev pub TestsTell : Type 0 → Type 0
+TestsTell J =
+    (seen : J → List (List ℕ)) (good : J → List (List ℕ) → List ℕ → Bool) (full whole : J → List (List ℕ) → Bool)
     (left : List (List ℕ)) (place : ℕ) (j i : J) (o : Result Verdict Refusal) →
-    Gone (λ j e. good (seen j) (entry_bytes e) ≡ true) (λ j. full (seen j) ≡ true) (λ j. whole (seen j) ≡ true) (λ j. whole (seen j) ≡ false)
-    (λ j e i. seen i ≡ seen j ++ (entry_bytes e ∷ [])) (λ j i. seen i ≡ seen j) left place j i o →
-    (o ≡ verdict good full whole (seen j) place left) × (seen i ≡ kept_of good full (seen j) left)
+    Gone (λ j e. good j (seen j) (entry_bytes e) ≡ true) (λ j. full j (seen j) ≡ true) (λ j. whole j (seen j) ≡ true) (λ j. whole j (seen j) ≡ false)
+    (λ j e i. (seen i ≡ seen j ++ (entry_bytes e ∷ [])) × SameTests good full whole j i) (λ j i. (seen i ≡ seen j) × SameTests good full whole j i) left place j i o →
+    (o ≡ verdict (good j) (full j) (whole j) (seen j) place left) × (seen i ≡ kept_of (good j) (full j) (seen j) left)

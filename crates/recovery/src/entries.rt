@@ -3,6 +3,7 @@ ghost use Rattle.std.specs.Prelude.{◌≡◌, ◌+◌, ◌<◌, ◌≤◌, true
 ghost use Rattle.headers.specs.Bytes.{cut};
 ghost use Rattle.recovery.specs.declared.entry.Entry.{Entry};
 ghost use Rattle.recovery.specs.Entries.{Judges, Gone};
+ghost use Rattle.recovery.specs.Tested.{TestsTell};
 
 use crate::entry::{Entry, entry_in};
 use rules::refusals::{Reason, Refusal};
@@ -47,8 +48,16 @@ pub trait Judge {
 }
 
 /// Goes over the entries of a part: no at the first bad one, a refusal where a good one finds no room, and after the last
-/// one yes, or no at the next place if a fact is missing.
+/// one yes, or no at the next place if a fact is missing. Where a judge goes by tests of what it has seen, these fix the answer.
 pub fn judge_entries<J: Judge>(judge: &mut J, part: &[u8]) -> Result<Verdict, Refusal>
+    ensures gone { Gone J.Judge.good J.Judge.full J.Judge.whole J.Judge.lacks J.Judge.keeps J.Judge.alike (cut 14 part.now) 1 judge.old judge.new result }
+    ensures tested { TestsTell J }
+{
+    go_over(judge, part)
+}
+
+// The same without the theorem on tests, which would be due again at each return.
+fn go_over<J: Judge>(judge: &mut J, part: &[u8]) -> Result<Verdict, Refusal>
     ensures { Gone J.Judge.good J.Judge.full J.Judge.whole J.Judge.lacks J.Judge.keeps J.Judge.alike (cut 14 part.now) 1 judge.old judge.new result }
 {
     let (records, _) = part.as_chunks::<14>();

@@ -4,7 +4,8 @@ ghost use Rattle.recovery.specs.Begun.{entry_bytes};
 ghost use Rattle.recovery.specs.EntryCuts.{EntryCut, EntryFits};
 
 /// A fact and its ground: the fact's letter, the number of the rule, the first term, the role, the second term or target,
-/// the place of the statement plus 1, and the witnesses u and w; 0 for what is unused. It is written as it is.
+/// the place of the statement plus 1, and the witnesses u and w; 0 for what is unused. It is written as it is,
+/// and a file may hold any of these numbers, so letter and rule are no enums: what they tell is judged by who reads the entry.
 #[derive(Clone, Copy)]
 pub struct Entry {
     pub letter: u8,

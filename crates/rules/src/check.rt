@@ -51,7 +51,7 @@ impl<'a> RuleBase<'a> {
 fn passes(counts: Counts, statements: &[Statement]) -> bool
     ensures { result ≡ pass counts.individuals counts.classes counts.roles counts.statements statements.now }
 {
-    counts.statements as usize == statements.len() && check_fields(counts, statements).is_ok()
+    usize::from(counts.statements) == statements.len() && check_fields(counts, statements).is_ok()
 }
 
 // Refuses the first statement with a wrong field.
@@ -72,6 +72,7 @@ fn wrong_in(counts: Counts, statement: Statement) -> Option<usize>
 {
     match field_kinds(statement.letter()) {
         Some(kinds) => wrong_field(counts, kinds, statement.fields()),
+        // Every statement has the letter of a form; the definition covers the other letters with the field 0.
         None => Some(0),
     }
 }

@@ -1,10 +1,11 @@
 // How many individuals, classes, roles and statements a book has. The limits are part of the type.
-ghost use Rattle.std.specs.Prelude.{◌≡◌, ℕ, ◌≤◌, Bool, true, false, MatchResult};
-ghost use Rattle.rules.specs.Limits.{within_limits};
+ghost use Rattle.std.specs.Prelude.{◌≡◌, ℕ, ◌≤◌, Bool, true, false, MatchResult, Some};
+ghost use Rattle.rules.specs.Limits.{within_limits, counts_text};
 ghost use Rattle.rules.specs.Refusals.{refusal};
 ghost use Rattle.rules.specs.declared.refusals.Reason.TheVariants.{CountOutOfLimits};
 
 use crate::refusals::{Reason, Refusal};
+use std::fmt;
 
 /// The counts of a book. No value of this type is outside the limits.
 #[derive(Clone, Copy, PartialEq, Eq)]
@@ -46,5 +47,22 @@ impl Counts {
             roles: roles as u16,
             statements: statements as u16,
         })
+    }
+}
+
+impl fmt::Display for Counts {
+    ghost output = { λ c. Some (counts_text c.individuals c.classes c.roles c.statements) };
+
+    fn fmt<W: fmt::Write>(&self, f: &mut fmt::Formatter<W>) -> fmt::Result {
+        let Counts {
+            individuals,
+            classes,
+            roles,
+            statements,
+        } = *self;
+        write!(
+            f,
+            "{individuals} individuals {classes} classes {roles} roles {statements} statements"
+        )
     }
 }

@@ -7,6 +7,7 @@ use crate::forms::Kind;
 use crate::three::Three;
 
 /// The first of the three fields that does not fit its kind, counted from 1.
+// Three tests in order: an array would be made only to be gone over, and its places counted from 0.
 pub fn wrong_field(counts: Counts, kinds: Three<Option<Kind>>, fields: Three<u16>) -> Option<usize>
     ensures { result ≡ wrong_field counts.individuals counts.classes counts.roles kinds fields }
 {

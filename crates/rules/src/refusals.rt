@@ -53,6 +53,7 @@ pub enum Reason {
 }
 
 /// A refusal: why, the line, part or place it is about, and the word or field there, which count from 1; 0 where there is none.
+/// The 0 is told to people as it is; an `Option` would be made a 0 again wherever a refusal is told.
 #[derive(Clone, Copy, PartialEq, Eq)]
 pub struct Refusal {
     pub reason: Reason,

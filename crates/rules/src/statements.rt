@@ -101,7 +101,7 @@ pub enum Statement {
 }
 
 impl Statement {
-    /// The statement with this letter and these fields; a field that its form does not use is not looked at.
+    /// The statement with this letter and these fields; a field that its form does not use is not looked at. One arm for each form.
     pub fn new(letter: char, first: u16, second: u16, third: u16) -> Option<Statement>
         ensures { result ≡ statement_of letter first second third }
     {
@@ -205,7 +205,7 @@ impl Statement {
         }
     }
 
-    /// Its three fields in order, 0 for one not in use; letter and fields together tell every statement apart.
+    /// Its three fields in order, 0 for one not in use; letter and fields together tell every statement apart. One arm for each form.
     pub fn fields(self) -> Three<u16>
         ensures value { result ≡ fields_of self }
         ensures apart { ToldApart }

@@ -54,17 +54,8 @@ impl fmt::Display for Survey {
     ghost output = { λ s. Some (survey_text s) };
 
     fn fmt<W: fmt::Write>(&self, f: &mut fmt::Formatter<W>) -> fmt::Result {
-        let facts = self.facts;
-        let Counts {
-            individuals,
-            classes,
-            roles,
-            statements,
-        } = self.counts;
-        write!(
-            f,
-            "{individuals} individuals {classes} classes {roles} roles {statements} statements {facts} facts"
-        )
+        let Survey { counts, facts } = self;
+        write!(f, "{counts} {facts} facts")
     }
 }
 

@@ -2,7 +2,7 @@ use Rattle.std.proofs.Common.{◌+◌, drop, Result}
 use Rattle.rules.specs.declared.refusals.Refusal.{Refusal}
 use Rattle.recovery.specs.Entries.{Gone}
 use Rattle.recovery.specs.declared.entries.Verdict.{Verdict}
-use Rattle.recovery.proofs.entries.judge_entries.Given as goal
+use Rattle.recovery.proofs.entries.go_over.Given as goal
 
 -- What going over the entries that are left gives, going over all of them from the start gives too.
 abbrev pub invariant-loop-i : goal.invariant-loop-i
