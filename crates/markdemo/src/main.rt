@@ -62,7 +62,9 @@ fn in_words(graph: &Graph, words: &mut [u64], limit: u64, most: u64) -> Result<M
     ensures { MatchResult result (λ m. Marking (Grounded (By graph.now.edges.now graph.now.start graph.now.bound)) empty (capped (bit words.new) limit) limit limit most m.added m.state) (λ e. Means e graph.now.bound limit words.old words.new) }
 {
     let mut table = WordTable::over(words);
-    table.set_up(limit).map_err(|_| Refused::TooFewWords)?;
+    let Ok(()) = table.set_up(limit) else {
+        return Err(Refused::TooFewWords);
+    };
     Ok(mark(graph, &mut table, most)?)
 }
 
