@@ -14,7 +14,7 @@ use grounds::check::gives;
 use marks::rules::RuleSet;
 use marks::store::{MarkStore, Put};
 use reasoner::book::BookRules;
-use recovery::entries::{Judge, Judged, Verdict, judge_entries};
+use recovery::entries::{Judged, Keeper, Verdict, keep_entries};
 use recovery::entry::Entry;
 use rules::base::RuleBase;
 use rules::refusals::Refusal;
@@ -28,14 +28,14 @@ fn given_number<S: MarkStore>(base: RuleBase<'_>, store: &S, entry: Entry) -> Op
     gives(base, store, told.fact, told.ground).then_some(number)
 }
 
-// Judges entries by a rule base, and keeps the facts of the good ones in a store.
+// A keeper of entries by a rule base: it stands by the facts of the good ones, which it keeps in a store.
 #[derive(Drop)]
 struct BookJudge<'b, 's, S: MarkStore> {
     base: RuleBase<'b>,
     store: &'s mut S,
 }
 
-impl<'b, 's, S: MarkStore> Judge for BookJudge<'b, 's, S> {
+impl<'b, 's, S: MarkStore> Keeper for BookJudge<'b, 's, S> {
     ghost good = { λ j e. GoodHere j.base (S.MarkStore.held j.store.now) (S.MarkStore.limit j.store.now) e };
 
     ghost full = { λ j. S.MarkStore.capacity j.store.now ≤ tally (S.MarkStore.held j.store.now) (S.MarkStore.limit j.store.now) };
@@ -80,5 +80,5 @@ pub(crate) fn judge_part<S: MarkStore>(
     ensures lent_kept { S.MarkStore.lent store.new ≡ S.MarkStore.lent store.old }
 {
     let mut judge = BookJudge { base, store };
-    judge_entries(&mut judge, part)
+    keep_entries(&mut judge, part)
 }

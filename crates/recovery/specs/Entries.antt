@@ -1,8 +1,8 @@
--- Going over the entries of a recovery file, in order, with a judge of entries:
+-- Going over the entries of a recovery file, in order, with a keeper of entries:
 --   at the first bad entry         no, with its place, from 1
 --   a good entry finds no room     refusal 15
 --   after the last entry           yes; or no at the next place if a fact is missing
--- A judge stands somehow, and that changes as it keeps entries: `good j e` says whether the entry e is good where the judge
+-- A keeper stands somehow, and that changes as it keeps entries: `good j e` says whether the entry e is good where the keeper
 -- stands as j, `full j` that there is no room to keep another, `whole j` that no fact is missing and `lacks j` that one is.
 -- `keeps j e i` says that j has become i by keeping e, and `alike j i` that i stands as j did.
 use Rattle.std.specs.Prelude.{◌≡◌, ℕ, ◌+◌, List, [], ◌∷◌, Ok, Err, Result}
@@ -17,7 +17,7 @@ use Rattle.recovery.specs.declared.entries.Judged.TheVariants as k
 use Rattle.recovery.specs.declared.entries.Verdict.{Verdict}
 use Rattle.recovery.specs.declared.entries.Verdict.TheVariants as v
 
--- What a judge says of an entry, and how it stands then.
+-- What a keeper says of an entry, and how it stands then.
 abbrev pub Judges : (good full keeps alike : Type 0) → Judged → Type 0
 Judges good full keeps alike k.Good = good × ¬ full × keeps
 Judges good full keeps alike k.Bad = ¬ good × alike
@@ -31,7 +31,7 @@ pub record Comes (left : List (List ℕ)) (e : Entry) (after : List (List ℕ)) 
   pub is : left ≡ entry_bytes e ∷ after
   pub fits : EntryFits e
 
--- Going over the entries that are left, of which the first has this place: how the judge stands before and at the end, and
+-- Going over the entries that are left, of which the first has this place: how the keeper stands before and at the end, and
 -- the answer.
 pub data Gone {J : Type 0} (good : J → Entry → Type 0) (full whole lacks : J → Type 0) (keeps : J → Entry → J → Type 0) (alike : J → J → Type 0) : List (List ℕ) → ℕ → J → J → Result Verdict Refusal → Type 0 where
   -- A bad entry comes.

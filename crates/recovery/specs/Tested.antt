@@ -5,8 +5,20 @@ use Rattle.std.specs.Prelude.{◌≡◌, ℕ, ◌+◌, Bool, true, false, cond, 
 use Rattle.rules.specs.declared.refusals.Refusal.{Refusal}
 use Rattle.recovery.specs.Begun.{entry_bytes}
 use Rattle.recovery.specs.Entries.{no_room_left, Gone}
+use Rattle.recovery.specs.declared.entries.Judged.{Judged}
+use Rattle.recovery.specs.declared.entries.Judged.TheVariants as k
 use Rattle.recovery.specs.declared.entries.Verdict.{Verdict}
 use Rattle.recovery.specs.declared.entries.Verdict.TheVariants as v
+
+-- What a judge says of an entry.
+abbrev pub judged : Bool → Bool → Judged
+judged good full = cond good (cond full k.Full k.Good) k.Bad
+
+-- The entries that are kept after that.
+abbrev pub kept_with : Judged → List (List ℕ) → List ℕ → List (List ℕ)
+kept_with k.Good seen e = seen ++ (e ∷ [])
+kept_with k.Bad seen e = seen
+kept_with k.Full seen e = seen
 
 -- The answer.
 abbrev pub verdict : (List (List ℕ) → List ℕ → Bool) → (List (List ℕ) → Bool) → (List (List ℕ) → Bool) → List (List ℕ) → ℕ → List (List ℕ) → Result Verdict Refusal

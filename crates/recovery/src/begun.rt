@@ -91,7 +91,7 @@ impl<'a> Begun<'a> {
 }
 
 // The fourteen bytes of an entry.
-fn entry_bytes(entry: Entry) -> [u8; 14]
+pub(crate) fn entry_bytes(entry: Entry) -> [u8; 14]
     ensures { result ≡ entry_bytes entry }
 {
     let [a1, a0] = entry.first.to_be_bytes();

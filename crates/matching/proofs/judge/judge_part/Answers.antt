@@ -5,7 +5,7 @@ use Rattle.matching.proofs.judge.judge_part.Goals as goal
 pub returns : goal.returns
 returns g c =
     let s = g.S.MarkStore in
-    let goes = c.judge_entries.ensures.gone in
+    let goes = c.keep_entries.ensures.gone in
     let kept = stays (λ j. j.base) (λ j. s.held j.store.now) (λ j. s.limit j.store.now) (λ j. s.capacity j.store.now) (λ j. s.lent j.store.now) (λ j. j.store.ghost_name) _ _ _ _ _ goes in
     let back = c.store-1.given.1 (sym kept.name_kept) in
     record {

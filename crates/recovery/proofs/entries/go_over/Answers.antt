@@ -32,5 +32,5 @@ pub returns-else-is_whole : goal.returns-else-is_whole
 returns-else-is_whole g c =
     let front : c.as_chunks.result.0.now ≡ cut 14 c.args.part.now = c.as_chunks.ensures.front in
     let e : length c.as_chunks.result.0.now ≡ c.loop-i.i = search rules in
-    let k = g.J.Judge in
-    rw (sym {b = cut 14 c.args.part.now} front) (subst (λ n. Gone k.good k.full k.whole k.lacks k.keeps k.alike c.as_chunks.result.0.now 1 c.args.judge.now c.loop-i.judge (Ok (No (n + 1)))) (sym e) (c.loop-i.invariant c.loop-i.judge (Ok (No (c.loop-i.i + 1))) (rw (drop_all c.loop-i.i c.as_chunks.result.0.now c.loop-i-test.false) (at_lack (c.is_whole.ensures.lacks c.if-is_whole.false)))))
+    let k = g.K.Keeper in
+    rw (sym {b = cut 14 c.args.part.now} front) (subst (λ n. Gone k.good k.full k.whole k.lacks k.keeps k.alike c.as_chunks.result.0.now 1 c.args.keeper.now c.loop-i.keeper (Ok (No (n + 1)))) (sym e) (c.loop-i.invariant c.loop-i.keeper (Ok (No (c.loop-i.i + 1))) (rw (drop_all c.loop-i.i c.as_chunks.result.0.now c.loop-i-test.false) (at_lack (c.is_whole.ensures.lacks c.if-is_whole.false)))))

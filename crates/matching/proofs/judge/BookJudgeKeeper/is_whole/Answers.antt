@@ -1,6 +1,6 @@
 use Rattle.std.proofs.Common.{sym}
 use Rattle.matching.proofs.Judging.{if_none, if_some, lacking}
-use Rattle.matching.proofs.judge.BookJudgeJudge.is_whole.Goals as goal
+use Rattle.matching.proofs.judge.BookJudgeKeeper.is_whole.Goals as goal
 
 pub returns : goal.returns
 returns g c =
